@@ -1,0 +1,10 @@
+pub mod Cells
+pub mod Codes
+pub mod Fronts
+pub mod Layouts
+pub mod Pigeons
+pub mod Places
+pub mod Prefix
+pub mod Runs
+pub mod Scans
+pub mod Steps
