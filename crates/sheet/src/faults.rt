@@ -16,7 +16,7 @@ pub enum Layer {
 }
 
 impl WordFault {
-    pub fn number(self) -> u8
+    pub(crate) fn number(self) -> u8
         ensures { λ r. ⌜ r ≡ wordNumber self ⌝ }
     {
         match self {
@@ -26,7 +26,7 @@ impl WordFault {
         }
     }
 
-    pub fn place(self) -> usize
+    pub(crate) fn place(self) -> usize
         ensures { λ r. ⌜ r ≡ wordPlace self ⌝ }
     {
         match self {
@@ -36,7 +36,7 @@ impl WordFault {
 }
 
 impl RecordFault {
-    pub fn number(self) -> u8
+    pub(crate) fn number(self) -> u8
         ensures { λ r. ⌜ r ≡ recordNumber self ⌝ }
     {
         match self {
@@ -48,7 +48,7 @@ impl RecordFault {
         }
     }
 
-    pub fn layer(self) -> Layer
+    pub(crate) fn layer(self) -> Layer
         ensures { λ r. ⌜ r ≡ recordLayer self ⌝ }
     {
         match self {
@@ -57,7 +57,7 @@ impl RecordFault {
         }
     }
 
-    pub fn place(self) -> usize
+    pub(crate) fn place(self) -> usize
         ensures { λ r. ⌜ r ≡ recordPlace self ⌝ }
     {
         match self {
