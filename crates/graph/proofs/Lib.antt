@@ -1,0 +1,6 @@
+pub mod Equations
+pub mod Forests
+pub mod Members
+pub mod Nexts
+pub mod Orders
+pub mod Paths
