@@ -1,6 +1,8 @@
 //! What the parts above ask of a sheet.
 ghost use mathlib.Core.Path.{_≡_};
+ghost use lib.ListN.{length};
 ghost use Rattle.sheet.specs.Patterns.{Lawful, linkedIn};
+ghost use Rattle.sheet.specs.Tables.{Shows};
 ghost use Rattle.sheet.specs.Views.{patternOf};
 use crate::sheets::Sheet;
 
@@ -35,5 +37,13 @@ impl Sheet {
             return false;
         }
         self.table.linked(a, b)
+    }
+
+    /// The links as a table of 512 rows of 512 cells: row a - 1, column b - 1 says whether the labels a and b are linked.
+    pub fn link_table(&self) -> &[bool]
+        ensures size { λ r. ⌜ length (now r) ≡ 262144 ⌝ }
+        ensures shows { λ r. ⌜ Shows (patternOf (now (self .entry)) .links) (now r) ⌝ }
+    {
+        self.table.cells()
     }
 }

@@ -25,6 +25,13 @@ impl LinkTable {
         Ok(LinkTable { cells })
     }
 
+    /// The cells, row after row.
+    pub(crate) fn cells(&self) -> &[bool]
+        ensures { λ r. ⌜ now r ≡ vec-items (now (self .entry) .cells) ⌝ }
+    {
+        self.cells.as_slice()
+    }
+
     /// Whether the labels a and b are linked.
     pub(crate) fn linked(&self, a: u16, b: u16) -> bool
         requires { ⌜ IsLabel 512 a × IsLabel 512 b ⌝ }

@@ -1,0 +1,11 @@
+pub mod Counts
+pub mod Joins
+pub mod Labels
+pub mod Lays
+pub mod Links
+pub mod Picks
+pub mod Runs
+pub mod Scans
+pub mod Spent
+pub mod Starts
+pub mod Steps

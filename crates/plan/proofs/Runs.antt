@@ -1,0 +1,31 @@
+-- The run of eliminations: when it is refused, and where it ends.
+use mathlib.Core.Path.{_≡_, sym, ap, subst, _∙_}
+use mathlib.Core.Bool.{Bool}
+use Prim.Native.Nat.{ℕ, _+_, _-_, _<_, _≤_}
+use native.Mathlib.Omega.{arith}
+use Rattle.graph.specs.Graphs.{start}
+use Rattle.graph.specs.Picking.{Price}
+use Rattle.graph.specs.Theorems.{TwoWay}
+use Rattle.plan.specs.declared.planner.Planner.{Planner}
+use Rattle.plan.specs.Planned.{placeCount}
+use Rattle.plan.specs.Shown.{Shows, Advances}
+use Rattle.plan.specs.Stages.{spent}
+use Rattle.plan.proofs.Spent.{places-spent, spent-grows}
+
+-- one elimination more, where the number of nodes is known by an equation
+pub advances : (price : Price) (p q : Planner) (n : ℕ) (linked : ℕ → ℕ → Bool) (k : ℕ) → p .n ≡ n → TwoWay linked → k < n → Advances price p q → Shows price linked k p → Shows price linked (k + 1) q
+advances price p q n linked k e two-way h step = step linked k two-way (subst (λ s. k < s) (sym e) h)
+
+-- the places of some columns are too many, so those of all are
+pub too-many : (price : Price) (n : ℕ) (linked : ℕ → ℕ → Bool) (k : ℕ) (p : Planner) → p .n ≡ n → k ≤ n → 8192 < p .places → Shows price linked k p → 8192 < placeCount price n linked
+too-many price n linked k p e h many s =
+    let f : k + (p .n - k) ≡ p .n = omega arith in
+    let t : 8192 < placeCount price (p .n) linked =
+    omega (arith, s .sum, spent-grows price (p .n) linked k (p .n - k), ap (spent price (start (p .n) linked)) f, places-spent price (p .n) linked) in
+    subst (λ x. 8192 < placeCount price x linked) e t
+
+pub few-enough : (price : Price) (n : ℕ) (linked : ℕ → ℕ → Bool) (k : ℕ) (p : Planner) → p .n ≡ n → k ≡ n → p .places ≤ 8192 → Shows price linked k p → Shows price linked (p .n) p × (placeCount price n linked ≤ 8192)
+few-enough price n linked k p e f few s =
+    let q : k ≡ p .n = f ∙ sym e in
+    let t : placeCount price (p .n) linked ≤ 8192 = omega (arith, s .sum, ap (spent price (start (p .n) linked)) q, places-spent price (p .n) linked) in
+    (subst (λ j. Shows price linked j p) q s, subst (λ x. placeCount price x linked ≤ 8192) e t)

@@ -1,0 +1,9 @@
+//! Elimination plans: from a sheet and a picking rule to an order, a tree, columns and a store layout.
+mod laying;
+mod planner;
+pub mod plans;
+mod records;
+pub mod refusals;
+pub mod room;
+mod rows;
+pub mod rules;
