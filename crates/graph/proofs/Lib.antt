@@ -1,3 +1,4 @@
+pub mod Eliminations
 pub mod Equations
 pub mod Forests
 pub mod Members

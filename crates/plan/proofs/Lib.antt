@@ -1,8 +1,11 @@
+pub mod Assembled
 pub mod Counts
+pub mod Finished
 pub mod Joins
 pub mod Labels
 pub mod Lays
 pub mod Links
+pub mod Made
 pub mod Picks
 pub mod Runs
 pub mod Scans

@@ -6,3 +6,4 @@ pub mod Scan
 pub mod Shown
 pub mod Stages
 pub mod Tables
+pub mod Views

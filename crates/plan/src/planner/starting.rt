@@ -1,7 +1,6 @@
 //! The tables before the first elimination.
 ghost use mathlib.Core.Path.{_≡_};
-ghost use mathlib.Core.List.{[]};
-ghost use Prim.Native.Nat.{ℕ, _≤_};
+ghost use Prim.Native.Nat.{ℕ, _<_, _≤_};
 ghost use lib.ListN.{length};
 ghost use Rattle.std.specs.Of.Vec.{vec-items, vec-len, vec-cap};
 ghost use Rattle.graph.specs.Picking.{Price};
@@ -43,6 +42,7 @@ impl Planner {
         requires empty { ⌜ vec-len nodes ≡ 0 ⌝ ∗ ⌜ vec-len order ≡ 0 ⌝ }
         requires room { ⌜ 512 ≤ vec-cap nodes ⌝ ∗ ⌜ 512 ≤ vec-cap order ⌝ }
         ensures size { λ p. ⌜ p .n ≡ patternOf (now (sheet .entry)) .n ⌝ }
+        ensures some { λ p. ⌜ 0 < p .n ⌝ }
         ensures kept { λ p. ⌜ vec-len (p .order) ≡ 0 ⌝ ∗ ⌜ p .places ≡ 0 ⌝ }
         ensures stands { λ p. ⌜ ((price : Price) → Shows price (linkedIn (patternOf (now (sheet .entry)) .links)) 0 p) ⌝ }
     {

@@ -38,6 +38,7 @@ returns c =
     let nodes = c .note-nodes .ensures ∙ ap (λ l. freshNodes l (c .n-n .result) (c .n-n .result)) (c .deref .ensures .value ∙ cells) in
     record {
       size = c .n-n .ensures .value;
+      some = omega (arith, c .n-n .ensures .value, law .size .0);
       kept = (c .pre .empty .1, refl);
       stands = λ price.
           subst (λ l. Stands price (c .n-n .result) (linkedIn (s .links)) 0 (vec-items (c .note-nodes .last .nodes)) l (vec-items (c .args .order)) 0) (sym cells)
