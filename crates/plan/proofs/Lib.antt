@@ -9,6 +9,7 @@ pub mod Made
 pub mod Picks
 pub mod Runs
 pub mod Scans
+pub mod Spans
 pub mod Spent
 pub mod Starts
 pub mod Steps

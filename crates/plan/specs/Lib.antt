@@ -1,5 +1,6 @@
 pub mod Laid
 pub mod Layout
+pub mod Lookups
 pub mod Planned
 pub mod Refusals
 pub mod Scan

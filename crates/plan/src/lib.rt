@@ -1,5 +1,6 @@
 //! Elimination plans: from a sheet and a picking rule to an order, a tree, columns and a store layout.
 mod laying;
+pub mod lookups;
 pub mod making;
 mod planner;
 pub mod plans;

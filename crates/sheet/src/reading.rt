@@ -11,8 +11,6 @@ ghost use Rattle.sheet.specs.declared.reading.Fault.the-variants.{InRecord};
 use crate::drafts::Draft;
 use crate::records::Record;
 use crate::records::RecordFault;
-use crate::records::RecordFaultDebug;
-use crate::records::RecordFaultPartialEq;
 use crate::records::next_record;
 use crate::room::Room;
 use crate::sheets::Sheet;
@@ -20,7 +18,7 @@ use crate::words::Word;
 
 /// Why some bytes are no sheet: a fault of a record, or a word that may not stand where it does. Each case holds its
 /// place: the word's index, or the number of words where the next one is missing.
-#[derive(Clone, Copy, PartialEq, Eq, Debug)]
+#[derive(Clone, Copy)]
 pub enum Fault {
     InRecord(RecordFault),
     NoHead(usize),

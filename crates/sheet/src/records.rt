@@ -8,8 +8,6 @@ ghost use Rattle.sheet.specs.declared.records.RecordFault.the-variants.{InWord
 use crate::drafts::Draft;
 use crate::words::Word;
 use crate::words::WordFault;
-use crate::words::WordFaultDebug;
-use crate::words::WordFaultPartialEq;
 use crate::words::next_word;
 
 /// What a word adds to a sheet.
@@ -22,7 +20,7 @@ pub enum Record {
 }
 
 /// A fault of a word, or a label that may not stand where it does; each case holds the word's index.
-#[derive(Clone, Copy, PartialEq, Eq, Debug)]
+#[derive(Clone, Copy)]
 pub enum RecordFault {
     InWord(WordFault),
     NoSuchLabel(usize),

@@ -16,7 +16,7 @@ pub enum Word {
 }
 
 /// What is wrong with the bytes of one word; each case holds the word's index.
-#[derive(Clone, Copy, PartialEq, Eq, Debug)]
+#[derive(Clone, Copy)]
 pub enum WordFault {
     Cut(usize),
     UnknownKind(usize),
