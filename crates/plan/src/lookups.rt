@@ -7,7 +7,7 @@ ghost use lib.ListN.{length, getD};
 ghost use Rattle.std.specs.Results.{Cases, isOk};
 ghost use Rattle.std.specs.declared.result.Result.the-variants.{Ok};
 ghost use Rattle.plan.specs.declared.refusals.Refusal.the-variants.{OutOfRange};
-ghost use Rattle.plan.specs.Lookups.{sizeIn, labelIn, positionIn, rowsIn, parentIn, within, placeOf};
+ghost use Rattle.plan.specs.Lookups.{sizeIn, labelIn, positionIn, rowsIn, parentIn, within, placeIn, placeOf};
 ghost use Rattle.plan.specs.Views.{arraysOf};
 use crate::plans::Plan;
 use crate::refusals::Refusal;
@@ -50,7 +50,7 @@ impl Plan {
         requires { ⌜ 0 < k ⌝ ∗ ⌜ k ≤ sizeIn (arraysOf (now self)) ⌝ }
         ensures value { λ r. ⌜ now r ≡ rowsIn (arraysOf (now (self .entry))) k ⌝ }
         ensures above { λ r. ⌜ ((i : ℕ) → i < length (now r) → (k < getD (now r) i 0) × (getD (now r) i 0 ≤ sizeIn (arraysOf (now (self .entry))))) ⌝ }
-        ensures rises { λ r. ⌜ ((i j : ℕ) → i ≤ j → j < length (now r) → getD (now r) i 0 ≤ getD (now r) j 0) ⌝ }
+        ensures rises { λ r. ⌜ ((i j : ℕ) → i < j → j < length (now r) → getD (now r) i 0 < getD (now r) j 0) ⌝ }
     {
         let first = self.starts[k as usize - 1] as usize;
         let past = self.starts[k as usize] as usize;
@@ -93,6 +93,32 @@ impl Plan {
         self.check(label)?;
         let position = self.position(label);
         Ok((position, self.parent(position)))
+    }
+
+    /// The place of row i of column j, the diagonal first, then the rows; none where the column does not have i.
+    fn place_at(&self, i: u16, j: u16) -> Option<usize>
+        requires { ⌜ 0 < j ⌝ ∗ ⌜ j ≤ sizeIn (arraysOf (now self)) ⌝ }
+        ensures { λ r. ⌜ r ≡ placeIn (arraysOf (now (self .entry))) i j ⌝ }
+    {
+        let first = self.starts[j as usize - 1] as usize;
+        if i == j {
+            return Some(first);
+        }
+        match self.column(j).binary_search(&i) {
+            Ok(row) => Some(first + 1 + row),
+            Err(_) => None,
+        }
+    }
+
+    /// The place of two labels, whichever stands first; none where the plan has none.
+    pub fn place(&self, a: u16, b: u16) -> Result<Option<usize>, Refusal>
+        ensures { λ r. ⌜ r ≡ within (arraysOf (now (self .entry))) a (within (arraysOf (now (self .entry))) b (Ok (placeOf (arraysOf (now (self .entry))) a b))) ⌝ }
+    {
+        self.check(a)?;
+        self.check(b)?;
+        let i = self.position(a);
+        let j = self.position(b);
+        Ok(self.place_at(i.max(j), i.min(j)))
     }
 
     /// Whether a place is a link of the sheet. The diagonals aren't, and nor is what is no place.

@@ -38,7 +38,7 @@ returns c =
     let past : b ≡ getD (vec-items (p .starts)) (k + 1 - 1) 0 = t .past-is ∙ ap (λ x. getD (vec-items (p .starts)) x 0) k-is in
     let first = t .first-is in
     let Above : List ℕ → Type 0 = λ R. (i : ℕ) → i < length (between (a + 1) b R) → (k < getD (between (a + 1) b R) i 0) × (getD (between (a + 1) b R) i 0 ≤ length (vec-items (p .order))) in
-    let Rises : List ℕ → Type 0 = λ R. (i j : ℕ) → i ≤ j → j < length (between (a + 1) b R) → getD (between (a + 1) b R) i 0 ≤ getD (between (a + 1) b R) j 0 in
+    let Rises : List ℕ → Type 0 = λ R. (i j : ℕ) → i < j → j < length (between (a + 1) b R) → getD (between (a + 1) b R) i 0 < getD (between (a + 1) b R) j 0 in
     record {
       value = cc;
       above = subst Above (sym e) (λ i h. let f = part-above p k a b (c .pre .0) high t i h in (f .0, omega (arith, f .1, p .order .ok .0)));
