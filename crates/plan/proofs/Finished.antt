@@ -56,7 +56,7 @@ place-at (x ∷ xs) m (suc k) once h =
     ∙ (let q : m + 1 + k ≡ m + suc k = omega arith in q)
 
 -- what a plan's ghost fields ask
-pub record Keeps (n : ℕ) (a : Arrays) : Type 0 where
+pub record Fields (n : ℕ) (a : Arrays) : Type 0 where
   pub ranked : Undoes n (a .order) (a .positions)
   pub placed : Undoes n (a .positions) (a .order)
   pub starting : Starts n (a .starts) (a .rows)
@@ -151,7 +151,7 @@ module _ (price : Price) (n : ℕ) (linked : ℕ → ℕ → Bool) (nodes : List
       let q : getD positions v 0 - 1 ≡ m = omega arith in
       (omega arith, omega (arith, w .1), ap (λ x. getD gone x 0) q ∙ a)
 
-  laid : (positions : List ℕ) → Undoes n gone positions → Keeps n (record { order = gone; positions = positions; starts = laidStarts col n; rows = laidRows col n; links = laidMarks col (sheetLink price g) n })
+  laid : (positions : List ℕ) → Undoes n gone positions → Fields n (record { order = gone; positions = positions; starts = laidStarts col n; rows = laidRows col n; links = laidMarks col (sheetLink price g) n })
   laid positions u = record {
     ranked = u;
     placed = placed-back positions u;
@@ -164,12 +164,12 @@ module _ (price : Price) (n : ℕ) (linked : ℕ → ℕ → Bool) (nodes : List
 
   -- what was laid out keeps the rules
   pub keeps : (len : ℕ) (positions starts rows : List ℕ) (links : List Bool) → len ≡ n → Undoes n gone positions → starts ≡ laidStarts col n → rows ≡ laidRows col n → links ≡ laidMarks col (sheetLink price g) n
-      → Keeps len (record { order = gone; positions = positions; starts = starts; rows = rows; links = links })
+      → Fields len (record { order = gone; positions = positions; starts = starts; rows = rows; links = links })
   keeps len positions starts rows links e u es er em =
-      subst (λ x. Keeps x (record { order = gone; positions = positions; starts = starts; rows = rows; links = links })) (sym e)
-      (subst (λ xs. Keeps n (record { order = gone; positions = positions; starts = xs; rows = rows; links = links })) (sym es)
-      (subst (λ xs. Keeps n (record { order = gone; positions = positions; starts = laidStarts col n; rows = xs; links = links })) (sym er)
-      (subst (λ xs. Keeps n (record { order = gone; positions = positions; starts = laidStarts col n; rows = laidRows col n; links = xs })) (sym em) (laid positions u))))
+      subst (λ x. Fields x (record { order = gone; positions = positions; starts = starts; rows = rows; links = links })) (sym e)
+      (subst (λ xs. Fields n (record { order = gone; positions = positions; starts = xs; rows = rows; links = links })) (sym es)
+      (subst (λ xs. Fields n (record { order = gone; positions = positions; starts = laidStarts col n; rows = xs; links = links })) (sym er)
+      (subst (λ xs. Fields n (record { order = gone; positions = positions; starts = laidStarts col n; rows = laidRows col n; links = xs })) (sym em) (laid positions u))))
 
   -- and is what the definitions give
   pub arrays-are : (positions starts rows : List ℕ) (links : List Bool) → length positions ≡ n → Undoes n gone positions → starts ≡ laidStarts col n → rows ≡ laidRows col n → links ≡ laidMarks col (sheetLink price g) n

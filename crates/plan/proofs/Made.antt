@@ -14,11 +14,11 @@ use Rattle.plan.specs.Layout.{Undoes}
 use Rattle.plan.specs.Planned.{Arrays, arraysFor, placeCount}
 use Rattle.plan.specs.Stages.{Stands}
 use Rattle.plan.specs.Tables.{cell}
-use Rattle.plan.proofs.Finished.{Keeps, keeps, arrays-are, order-length, order-labels, order-apart, rows-same, starts-same, marks-same, places-same, starts-long, marks-long}
+use Rattle.plan.proofs.Finished.{Fields, keeps, arrays-are, order-length, order-labels, order-apart, rows-same, starts-same, marks-same, places-same, starts-long, marks-long}
 
 -- a plan's arrays, with their lengths
 pub record Made (price : Price) (n : ℕ) (linked : ℕ → ℕ → Bool) (a : Arrays) : Type 0 where
-  pub kept : (len : ℕ) → len ≡ n → Keeps len a
+  pub kept : (len : ℕ) → len ≡ n → Fields len a
   pub is : a ≡ arraysFor price n linked
   pub positions-long : length (a .positions) ≡ n
   pub starts-long : length (a .starts) ≡ n + 1

@@ -8,16 +8,53 @@ ghost use Rattle.std.specs.Results.{Cases, isOk};
 ghost use Rattle.std.specs.declared.result.Result.the-variants.{Ok};
 ghost use Rattle.plan.specs.declared.refusals.Refusal.the-variants.{OutOfRange};
 ghost use Rattle.plan.specs.Lookups.{sizeIn, labelIn, positionIn, rowsIn, parentIn, within, placeIn, placeOf};
+ghost use Rattle.plan.specs.Planned.{Keeps};
 ghost use Rattle.plan.specs.Views.{arraysOf};
 use crate::plans::Plan;
 use crate::refusals::Refusal;
 
 impl Plan {
-    /// The number of nodes.
+    /// The number of nodes. Every plan keeps the rules of the layout.
     pub fn n(&self) -> u16
-        ensures { λ r. ⌜ r ≡ sizeIn (arraysOf (now (self .entry))) ⌝ }
+        ensures value { λ r. ⌜ r ≡ sizeIn (arraysOf (now (self .entry))) ⌝ }
+        ensures keeps { λ _. ⌜ Keeps (arraysOf (now (self .entry))) ⌝ }
     {
         self.order.len() as u16
+    }
+
+    /// The labels in the order in which they go.
+    pub fn order(&self) -> &[u16]
+        ensures { λ r. ⌜ now r ≡ arraysOf (now (self .entry)) .order ⌝ }
+    {
+        self.order.as_slice()
+    }
+
+    /// The position of each label.
+    pub fn positions(&self) -> &[u16]
+        ensures { λ r. ⌜ now r ≡ arraysOf (now (self .entry)) .positions ⌝ }
+    {
+        self.positions.as_slice()
+    }
+
+    /// The place at which each column starts, and the number of places.
+    pub fn starts(&self) -> &[u32]
+        ensures { λ r. ⌜ now r ≡ arraysOf (now (self .entry)) .starts ⌝ }
+    {
+        self.starts.as_slice()
+    }
+
+    /// The position of the row at each place.
+    pub fn rows(&self) -> &[u16]
+        ensures { λ r. ⌜ now r ≡ arraysOf (now (self .entry)) .rows ⌝ }
+    {
+        self.rows.as_slice()
+    }
+
+    /// Whether each place is a link of the sheet.
+    pub fn links(&self) -> &[bool]
+        ensures { λ r. ⌜ now r ≡ arraysOf (now (self .entry)) .links ⌝ }
+    {
+        self.links.as_slice()
     }
 
     /// The number of places: P.
@@ -38,7 +75,7 @@ impl Plan {
     }
 
     /// The label at a position.
-    pub fn label(&self, position: u16) -> Result<u16, Refusal>
+    pub fn label_at(&self, position: u16) -> Result<u16, Refusal>
         ensures { λ r. ⌜ r ≡ within (arraysOf (now (self .entry))) position (Ok (labelIn (arraysOf (now (self .entry))) position)) ⌝ }
     {
         self.check(position)?;
@@ -58,7 +95,7 @@ impl Plan {
     }
 
     /// The rows of the column at a position, below its diagonal.
-    pub fn rows(&self, position: u16) -> Result<&[u16], Refusal>
+    pub fn rows_at(&self, position: u16) -> Result<&[u16], Refusal>
         ensures ok { λ r. ⌜ isOk r ≡ (ltb 0 position && leb position (sizeIn (arraysOf (now (self .entry))))) ⌝ }
         ensures cases { λ r. ⌜ Cases r (λ s. now s ≡ rowsIn (arraysOf (now (self .entry))) position) (λ e. e ≡ OutOfRange) ⌝ }
     {
