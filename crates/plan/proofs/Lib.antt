@@ -13,3 +13,4 @@ pub mod Spans
 pub mod Spent
 pub mod Starts
 pub mod Steps
+pub mod Turns

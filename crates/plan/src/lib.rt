@@ -1,4 +1,5 @@
 //! Elimination plans: from a sheet and a picking rule to an order, a tree, columns and a store layout.
+pub mod given;
 mod laying;
 pub mod lookups;
 pub mod making;
