@@ -47,7 +47,7 @@ map-kept f g test (suc m) a h =
     map-cond f g a (kept-by test (counting (a + 1) m)) (test a) (h a (omega arith) (omega arith)) (map-kept f g test m (a + 1) (λ k l u. h k (omega arith) (omega arith)))
 
 -- the place of an entry of a list that has no entry twice
-place-at : (xs : List ℕ) (m k : ℕ) → ((i j : ℕ) → i < j → j < length xs → getD xs i 0 ≡ getD xs j 0 → ⊥) → k < length xs → placeFrom m xs (getD xs k 0) ≡ m + k
+pub place-at : (xs : List ℕ) (m k : ℕ) → ((i j : ℕ) → i < j → j < length xs → getD xs i 0 ≡ getD xs j 0 → ⊥) → k < length xs → placeFrom m xs (getD xs k 0) ≡ m + k
 place-at [] m k once h = absurd (omega (arith, h))
 place-at (x ∷ xs) m zero once h = ap (λ t. cond t m (placeFrom (m + 1) xs x)) (eq-eqb x x refl) ∙ (let q : m ≡ m + 0 = omega arith in q)
 place-at (x ∷ xs) m (suc k) once h =

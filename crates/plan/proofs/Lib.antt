@@ -13,4 +13,5 @@ pub mod Spans
 pub mod Spent
 pub mod Starts
 pub mod Steps
+pub mod Subjects
 pub mod Turns

@@ -7,5 +7,6 @@ pub mod Refusals
 pub mod Scan
 pub mod Shown
 pub mod Stages
+pub mod Subject
 pub mod Tables
 pub mod Views

@@ -5,6 +5,7 @@ ghost use Rattle.graph.specs.Theorems.{Eliminates};
 ghost use Rattle.sheet.specs.Patterns.{linkedIn};
 ghost use Rattle.sheet.specs.Views.{patternOf};
 ghost use Rattle.plan.specs.Planned.{planned};
+ghost use Rattle.plan.specs.Subject.{Answers};
 ghost use Rattle.plan.specs.Views.{arraysOf};
 use crate::laying::invert;
 use crate::laying::lay_out;
@@ -18,6 +19,7 @@ use sheet::sheets::Sheet;
 /// The plan of a sheet by a picking rule; refused exactly when it would have more than 8,192 places.
 pub fn make<R: Rule>(room: Room, sheet: &Sheet, rule: &R) -> Result<Plan, Refusal>
     ensures exact { λ r. ⌜ mapped arraysOf (λ e. e) r ≡ planned (R·Rule .priced (now (rule .entry))) (patternOf (now (sheet .entry))) ⌝ }
+    ensures answers { λ _. ⌜ Answers (R·Rule .priced (now (rule .entry))) (patternOf (now (sheet .entry)) .n) (linkedIn (patternOf (now (sheet .entry)) .links)) ⌝ }
     ensures keeps { λ _. ⌜ Eliminates (R·Rule .priced (now (rule .entry))) (patternOf (now (sheet .entry)) .n) (linkedIn (patternOf (now (sheet .entry)) .links)) ⌝ }
 {
     let Room {

@@ -20,6 +20,7 @@ use Rattle.plan.specs.Planned.{Arrays, placeCount, planned, arraysFor}
 use Rattle.plan.proofs.Links.{two-way, cell-is}
 use Rattle.plan.proofs.Made.{Made, made, seen-length, seen-labels, seen-apart, seen-places}
 use Rattle.plan.proofs.Runs.{Ended, ended}
+use Rattle.plan.proofs.Subjects.{answers}
 use Rattle.plan.proofs.making.make.Needs as need
 
 refused : (price : ℕ → ℕ → ℕ) (s : Pattern) → 8192 < placeCount price (s .n) (linkedIn (s .links)) → Err TooManyPlaces ≡ planned price s
@@ -35,7 +36,7 @@ returns-in-Break-eliminate-all g c =
     let p = err-from-errBy (c .from-residual .result) (c .from-residual .ensures .1) in
     let end = c .in-Break-eliminate-all .ensures tt .ends (linkedIn (s .links)) (two-way (s .links)) (c .start-planner .ensures .stands price) in
     let many = subst (λ x. 8192 < placeCount price x (linkedIn (s .links))) (c .start-planner .ensures .size) (end .1) in
-    rw (p .1, p .2) (record { exact = ap (λ e. Err e) (end .0) ∙ refused price s many; keeps = eliminates price (s .n) (linkedIn (s .links)) })
+    rw (p .1, p .2) (record { exact = ap (λ e. Err e) (end .0) ∙ refused price s many; answers = answers price (s .n) (linkedIn (s .links)); keeps = eliminates price (s .n) (linkedIn (s .links)) })
 
 pub invert-requires : need.invert-requires
 invert-requires g c κs =
@@ -121,4 +122,4 @@ returns g c =
     let m = made price n L _ _ (vec-items (end .order)) _ (e .stands) _ (c .deref-2 .ensures .value) _ (c .deref-3 .ensures .value) (c .link-table .result .now)
     (λ a b ha hb. cell-is (s .links) (c .link-table .result .now) (c .link-table .ensures .shows) a b (omega (arith, size, end .small)) (omega (arith, size, end .small)))
     (c .deref .result .now) (c .invert .last .positions) _ (vec-items (c .lay-out .last .starts)) (vec-items (c .lay-out .last .rows)) (vec-items (c .lay-out .last .marks)) (c .deref .ensures .value) positions (ap (λ (xs : List ℕ). length xs) positions ∙ long) (c .invert .ensures) (c .lay-out .ensures .starts) (c .lay-out .ensures .rows) (c .lay-out .ensures .marks) in
-    record { exact = answered price s _ (e .few) (m .is); keeps = eliminates price n L }
+    record { exact = answered price s _ (e .few) (m .is); answers = answers price n L; keeps = eliminates price n L }
