@@ -1,9 +1,9 @@
-/* Times planning by a library that has the one function `plan_sheet`.
+/* Times planning by the library `bench_plan`.
 
        plan SHEET...
 
    prints a line for each sheet: its name, the number of places of its plan, or the refusal's number below zero, and the
-   nanoseconds of reading, ordering and layout together. */
+   nanoseconds of reading, ordering and layout together, without those of reserving the memory. */
 
 #include <stdint.h>
 #include <stdio.h>
@@ -13,6 +13,9 @@
 /* Reads the sheet and plans it by least degree, `repetitions` times over, and answers the number of places or the
    refusal's number below zero. */
 extern int64_t plan_sheet(const uint8_t *bytes, uint64_t length, uint64_t repetitions);
+
+/* Reserves the memory of one planning and gives it back, `repetitions` times over. */
+extern uint64_t reserve_rooms(uint64_t repetitions);
 
 typedef struct {
     File sheet;
@@ -25,12 +28,19 @@ static void plan(void *context, uint64_t repetitions)
     planning->answer = plan_sheet(planning->sheet.bytes, planning->sheet.length, repetitions);
 }
 
+static void reserve(void *context, uint64_t repetitions)
+{
+    (void)context;
+    reserve_rooms(repetitions);
+}
+
 int main(int count, char **arguments)
 {
     static Planning planning;
+    double reserving = best_ns(reserve, NULL);
     for (int i = 1; i < count; i++) {
         read_file(arguments[i], &planning.sheet);
-        double ns = best_ns(plan, &planning);
+        double ns = best_ns(plan, &planning) - reserving;
         printf("%s %lld %.0f\n", arguments[i], (long long)planning.answer, ns);
     }
     return 0;

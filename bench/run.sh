@@ -1,18 +1,16 @@
 #!/usr/bin/env bash
 # Builds and runs both benchmark programs and prints their times side by side.
 #
-#     bash bench/run.sh LIBRARY
+#     bash bench/run.sh
 #
-# LIBRARY is the static library that has `plan_sheet`.
+# It proves and builds the library that is measured, and installs SuiteSparse where it is missing.
 set -euo pipefail
 
-if [ $# -ne 1 ] || [ ! -f "$1" ]; then
-    echo "usage: bench/run.sh LIBRARY" >&2
-    exit 2
-fi
-
-library=$(realpath "$1")
 source=$(realpath "$(dirname "$0")")
+[ -f /usr/include/suitesparse/amd.h ] || { apt-get update && apt-get install -y libsuitesparse-dev; }
+(cd "$source/.." && rt staticlib bench_plan >/dev/null)
+library=$source/../target/staticlib/libbench_plan.a
+runtime=$(dirname "$(dirname "$(rt doc)")")/lib/librattle_c.a
 work=$(mktemp -d)
 trap 'rm -r "$work"' EXIT
 cd "$work"
@@ -21,7 +19,7 @@ compile() {
     cc -std=c11 -D_POSIX_C_SOURCE=200809L -O2 -Wall -Wextra "$@"
 }
 
-compile -o plan "$source/plan.c" "$library"
+compile -o plan "$source/plan.c" "$library" "$runtime"
 compile -o amd "$source/amd.c" -lamd -lldl -lsuitesparseconfig
 mkdir sheets
 python3 "$source/patterns.py" sheets
