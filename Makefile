@@ -2,8 +2,8 @@
 .PHONY: run test
 
 run:
-	rt check sheetcheck
-	target/bin/sheetcheck < examples/mill.sheet
+	rt check siteplan
+	target/bin/siteplan < examples/mill.sheet
 
 test:
 	@bash .ci/gate

@@ -1,0 +1,15 @@
+use native.Mathlib.Omega.{arith}
+use Rattle.plan.specs.Views.{arraysOf}
+use Rattle.listing.specs.Texts.{lineIn}
+use Rattle.listing.proofs.Pieces.{puts-next}
+use Rattle.listing.proofs.listings.put_lines.Needs as need
+
+pub loop-k-again : need.loop-k-again
+loop-k-again c = (
+  puts-next (lineIn (arraysOf (c .args .plan .now))) (c .loop-k .k) (omega arith) (omega arith) (c .loop-k .inv .0) (c .put-line-at .ensures .written),
+  omega arith,
+)
+
+pub returns·2 : need.returns·2
+returns·2 c =
+    puts-next (lineIn (arraysOf (c .args .plan .now))) (c .loop-k .k) (omega arith) (omega arith) (c .loop-k .inv .0) (c .put-line-at .ensures .written)
