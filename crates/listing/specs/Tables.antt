@@ -1,4 +1,4 @@
--- Entries written into a lent table.
+-- Items written into a lent table.
 use mathlib.Core.Path.{_≡_}
 use mathlib.Core.Bool.{cond}
 use mathlib.Core.List.{List, _++_}

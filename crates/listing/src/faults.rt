@@ -8,7 +8,7 @@ use sheet::faults::FaultDisplay;
 use sheet::reading::Fault;
 use std::fmt;
 
-/// A fault of the sheet, or a refusal of its plan.
+/// Why a site sheet gets no listing: a fault of the sheet, or a refusal of its plan.
 #[derive(Clone, Copy)]
 pub enum SiteFault {
     InSheet(Fault),

@@ -7,13 +7,13 @@ ghost use Rattle.std.specs.Written.{decimal};
 ghost use Rattle.listing.specs.Texts.{spaced};
 ghost use Rattle.listing.specs.Tables.{Puts};
 
-/// The place after an entry that is written at a place.
-pub(crate) fn put<T: Copy + Drop>(table: &mut [T], at: usize, entry: T) -> usize
+/// The place after an item that is written at a place.
+pub(crate) fn put<T: Copy + Drop>(table: &mut [T], at: usize, item: T) -> usize
     requires { ⌜ at + 1 < 2 ^ 64 ⌝ }
-    ensures { λ r. ⌜ Puts (entry ∷ []) (now (table .entry)) at (now (table .exit)) r ⌝ }
+    ensures { λ r. ⌜ Puts (item ∷ []) (now (table .entry)) at (now (table .exit)) r ⌝ }
 {
     if at < table.len() {
-        table[at] = entry;
+        table[at] = item;
     }
     at + 1
 }

@@ -52,6 +52,7 @@ fn listing_of(heap: Global, plan: &Plan) -> Result<Vec<u8>, AllocError>
     ensures { λ r. ⌜ made r (λ v. vec-items v ≡ listingText (arraysOf (now (plan .entry)))) ⌝ }
 {
     let mut text = vec![in heap; 0; listing_length(plan)]?;
+    // The table has just the listing's length, so the call is not refused.
     let _ = listing(plan, &mut text);
     Ok(text)
 }

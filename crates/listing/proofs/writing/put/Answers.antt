@@ -9,7 +9,7 @@ returns g c = record {
   held =
       elim (c .if-at-table .came) [
         | then-at-table w ↦ w .table-is
-        | else-at-table w ↦ w .table-is ∙ sym (set-past (c .args .table .now) (c .args .at) (c .args .entry) (omega arith))
+        | else-at-table w ↦ w .table-is ∙ sym (set-past (c .args .table .now) (c .args .at) (c .args .item) (omega arith))
       ];
   ends = omega arith;
 }
