@@ -1,0 +1,5 @@
+pub mod Bits
+pub mod Counted
+pub mod Firsts
+pub mod Joined
+pub mod Members
