@@ -3,3 +3,4 @@ pub mod Counted
 pub mod Firsts
 pub mod Joined
 pub mod Members
+pub mod Rowed
