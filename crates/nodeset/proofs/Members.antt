@@ -18,7 +18,7 @@ use Rattle.nodeset.proofs.Bits.{either, bit-or, bit-and, bit-xor, bit-pow}
 abbrev pub hasIn : List ℕ → ℕ → Bool
 hasIn words i = bitAt (getD words (i / 64) 0) (i % 64)
 
-or-none : (x : Bool) → (x || false) ≡ x
+pub or-none : (x : Bool) → (x || false) ≡ x
 or-none true = refl
 or-none false = refl
 

@@ -7,15 +7,15 @@ use Prim.Native.Nat.{ℕ, zero, suc, _+_, _-_, _/_, _%_, _<_, _≤_}
 use native.Mathlib.Omega.{arith}
 use lib.Dec.{eqb, ltb}
 use lib.ListN.{length, getD, set, replicate, getD-replicate, length-replicate, length-set}
-use Rattle.std.specs.declared.option.Option.{Option}
-use Rattle.std.specs.declared.option.Option.the-variants.{Some, None}
+use Rattle.std.specs.declared.option.Option.the-variants.{None}
 use Rattle.std.proofs.shelf.Lists.{getD-set-same, getD-set-other, getD-past}
-use Rattle.std.proofs.shelf.Tests.{cases-eq, cases-lt, eq-eqb, ne-eqb, lt-ltb, and-left, and-right}
+use Rattle.std.proofs.shelf.Tests.{cases-eq, cases-lt, eq-eqb, ne-eqb, lt-ltb, and-right}
 use Rattle.nodeset.specs.declared.sets.NodeSet.{NodeSet}
 use Rattle.nodeset.specs.Rows.{noNodes, inRows, linkedAlso, joinedTo}
 use Rattle.nodeset.specs.Sets.{bitAt, has, countBelow, firstOf}
-use Rattle.nodeset.proofs.Bits.{bit-of-zero, count-same}
+use Rattle.nodeset.proofs.Bits.{bit-of-zero}
 use Rattle.nodeset.proofs.Firsts.{first-skip}
+use Rattle.nodeset.proofs.Members.{or-none}
 
 -- past the rows there is nothing
 none-has : (b : ℕ) → has noNodes b ≡ false
@@ -63,10 +63,6 @@ module _ (sets : List NodeSet) (a : ℕ) (h : a < length sets) (row : NodeSet) w
             ∙ ap₂ (λ x t. x || t) (ap (λ x. inRows sets x j) (sym e)) (low-only ∙ sym (ap (λ t. t && eqb b j) (eq-eqb a i (sym e))))
         | inr ne ↦ other i j ne ∙ sym (ap (λ t. inRows sets i j || (t && eqb b j)) (ne-eqb a i (λ e. ne (sym e))) ∙ or-none (inRows sets i j))
       ] where
-        or-none : (x : Bool) → (x || false) ≡ x
-        or-none true = refl
-        or-none false = refl
-
         low-only : (eqb b j && ltb j 512) ≡ eqb b j
         low-only =
             elim (cases-eq b j) [
