@@ -1,7 +1,6 @@
 -- Kinds of number by their operations, and the operations of floats, residues and marks.
 use Rattle.std.specs.Prelude.{ℕ, Float}
 use Rattle.arith.specs.declared.arithmetic.Arithmetic.{Ghosts}
-use Rattle.arith.specs.declared.arithmetic.Solving as solving
 use Rattle.arith.specs.declared.marks.Mark.{Mark}
 use Rattle.arith.specs.declared.residues.Residue.{Residue}
 use Rattle.arith.specs.Floats.{plus_zero, updated_float, judged_float, taken_float, divided_float}
@@ -28,8 +27,9 @@ pub record Solvers (X : Type 0) : Type 0 where
 abbrev pub operations_of : {X : Type 0} → Ghosts X → Operations X
 operations_of g = record { nothing = g.nothing; updated = g.updated; judged = g.judged }
 
-abbrev pub solvers_of : {X : Type 0} → Ghosts X → solving.Ghosts X → Solvers X
-solvers_of g s = record { base = operations_of g; taken = s.taken; divided = s.divided }
+-- and those of one that solves, by what it has besides
+abbrev pub solvers_of : {X : Type 0} → Ghosts X → (X → X → X → X) → (X → X → X) → Solvers X
+solvers_of g taken divided = record { base = operations_of g; taken = taken; divided = divided }
 
 abbrev pub floats : Solvers Float
 floats = record {

@@ -47,7 +47,7 @@ impl Controller {
         res: &mut [N],
     ) -> Result<(), Refusal>
         ensures plan { self.new.plan ≡ self.old.plan }
-        ensures leads { (entered : List N) → LeadsSolving (solvers_of N.Arithmetic N.Solving) (SolvingCall.solve right.now (length res.old)) (box_of self.old entered worked.now) (box_of self.new entered worked.now) (solved_into result res.new) }
+        ensures leads { (entered : List N) → LeadsSolving (solvers_of N.Arithmetic N.Solving.taken N.Solving.divided) (SolvingCall.solve right.now (length res.old)) (box_of self.old entered worked.now) (box_of self.new entered worked.now) (solved_into result res.new) }
         ensures res { result_after result res.old res.new }
     {
         if let Standing::Bare = self.standing {

@@ -36,7 +36,7 @@ fn backward_column<N: Solving>(plan: &Plan, worked: &[N], levels: &mut [N], k: u
     requires position { Position (arrays_of plan.now) k }
     requires long { length worked.now ≡ length (arrays_of plan.now).rows }
     requires size { length levels.old ≡ size_in (arrays_of plan.now) }
-    ensures { Moves N.Arithmetic.nothing (arrays_of plan.now) (backward_step (solvers_of N.Arithmetic N.Solving) (matrix_of N.Arithmetic.nothing (arrays_of plan.now) worked.now) (size_in (arrays_of plan.now)) k) levels.old levels.new }
+    ensures { Moves N.Arithmetic.nothing (arrays_of plan.now) (backward_step (solvers_of N.Arithmetic N.Solving.taken N.Solving.divided) (matrix_of N.Arithmetic.nothing (arrays_of plan.now) worked.now) (size_in (arrays_of plan.now)) k) levels.old levels.new }
 {
     let rows = plan.rows();
     let order = plan.order();
@@ -57,7 +57,7 @@ pub fn solve<N: Solving>(
     right: &[N],
     res: &mut [N],
 ) -> Result<(), Refusal>
-    ensures { Solves (solvers_of N.Arithmetic N.Solving) (arrays_of plan.now) worked.now right.now res.old result res.new }
+    ensures { Solves (solvers_of N.Arithmetic N.Solving.taken N.Solving.divided) (arrays_of plan.now) worked.now right.now res.old result res.new }
 {
     let n = plan.n();
     if worked.len() != plan.places() || right.len() != n as usize || res.len() != n as usize {

@@ -15,7 +15,7 @@ filled xs table e =
 pub returns : goal.returns
 returns c =
     let xs = listing_text (arrays_of c.args.plan.now) in
-    let table = c.deref-mut.result.now in
-    let long : length table ≡ length xs = c.deref-mut.ensures.len ∙ c.in-ok-text.ensures.len ∙ c.listing-length.ensures in
+    let table = c.deref_mut.result.now in
+    let long : length table ≡ length xs = c.deref_mut.ensures.len ∙ c.in_ok-text.ensures.len ∙ c.listing_length.ensures in
     let text = c.listing.ensures.table ∙ filled xs table long in
-    with_items_is c.in-ok-text.text c.listing.new.table (ap length text ∙ sym long ∙ c.deref-mut.ensures.len) ∙ text
+    with_items_is c.in_ok-text.text c.listing.new.table (ap length text ∙ sym long ∙ c.deref_mut.ensures.len) ∙ text

@@ -3,4 +3,4 @@ use Rattle.square.proofs.Balancing.{balances}
 use Rattle.square.proofs.levels_balance.Goals as goal
 
 pub returns : goal.returns
-returns g c = balances (solvers_of g.N.Arithmetic g.N.Solving)
+returns g c = balances (solvers_of g.N.Arithmetic g.N.Solving.taken g.N.Solving.divided)

@@ -5,12 +5,12 @@ use Rattle.listing.proofs.Filled.{lists-fill}
 use Rattle.listing.proofs.Writes.{fits, overflows}
 use Rattle.listing.proofs.fills.fill_list.Goals as goal
 
-pub returns-then-put-fill-table : goal.returns-then-put-fill-table
-returns-then-put-fill-table c =
-    let f = overflows (fill_pairs (arrays_of c.args.plan.now)) c.args.table.now (omega (arith, c.put-fill.ensures.ends)) in
+pub returns-then-put_fill-table : goal.returns-then-put_fill-table
+returns-then-put_fill-table c =
+    let f = overflows (fill_pairs (arrays_of c.args.plan.now)) c.args.table.now (omega (arith, c.put_fill.ensures.ends)) in
     record { answer = f.0; table = f.1; theorem = lists-fill }
 
 pub returns : goal.returns
 returns c =
-    let f = fits c.put-fill-2.ensures (omega arith) in
+    let f = fits c.put_fill-2.ensures (omega arith) in
     record { answer = f.0; table = f.1; theorem = lists-fill }

@@ -6,7 +6,7 @@ use Rattle.listing.specs.Fills.{unlinked, labels_at, column_fill}
 use Rattle.listing.proofs.Pieces.{puts-kept, puts-passed}
 use Rattle.listing.proofs.Writes.{puts_none, puts-as, puts-to}
 use Rattle.listing.proofs.fills.put_column.Goals as goal
-use Rattle.listing.proofs.fills.put_column.Goals.{then-not-is-link, else-not-is-link}
+use Rattle.listing.proofs.fills.put_column.Goals.{then-not-is_link, else-not-is_link}
 
 pub loop-place-init : goal.loop-place-init
 loop-place-init c =
@@ -26,17 +26,17 @@ loop-place-preserved c =
     let reached : first + (place - first) ≡ place = omega arith in
     let more : place - first + 1 ≡ place + 1 - first = omega arith in
     let grown = ap (λ n. map f (filter (unlinked a) (range_with_len first n))) more in
-    elim c.if-not-is-link.branch [
-      | then-not-is-link w ↦
-          (let unmarked : unlinked a place ≡ true = ap not (sym w.if-not-is-link.ensures) in
+    elim c.if-not-is_link.branch [
+      | then-not-is_link w ↦
+          (let unmarked : unlinked a place ≡ true = ap not (sym w.if-not-is_link.ensures) in
           let row = ap (λ xs. get_or xs place 0) c.rows-rows.ensures in
-          let pair : (w.label.result, w.label-then-not-is-link.result) ≡ f place =
-          ap₂ (λ v u. (v, u)) w.label.ensures (w.label-then-not-is-link.ensures ∙ ap (label_in a) row) in
+          let pair : (w.label.result, w.label-then-not-is_link.result) ≡ f place =
+          ap₂ (λ v u. (v, u)) w.label.ensures (w.label-then-not-is_link.ensures ∙ ap (label_in a) row) in
           let written = puts-kept f (unlinked a) first (place - first) place reached unmarked c.loop-place.invariant.0
           (puts-as (ap (λ (v : ℕ × ℕ). v ∷ []) pair) w.put-at.ensures) in
           (puts-to w.table-is w.at-is (puts-as grown written), omega (arith, w.at-is, w.put-at.ensures.ends)))
-      | else-not-is-link w ↦
-          (let marked : unlinked a place ≡ false = ap not (sym w.if-not-is-link.ensures) in
+      | else-not-is_link w ↦
+          (let marked : unlinked a place ≡ false = ap not (sym w.if-not-is_link.ensures) in
           let written = puts-passed f (unlinked a) first (place - first) place reached marked c.loop-place.invariant.0 in
           (puts-to w.table-is w.at-is (puts-as grown written), omega (arith, w.at-is)))
     ]

@@ -6,8 +6,8 @@ use Rattle.listing.proofs.listings.put_head.Goals as goal
 pub returns : goal.returns
 returns c = record {
   written =
-      puts-append c.put-text-at.ensures
-      (puts-append (puts-as (ap spaced c.n.ensures.value) c.put-spaced-at.ensures.written)
-      (puts-append (puts-as (ap spaced c.places.ensures) c.put-spaced-at-2.ensures.written) c.put.ensures));
+      puts-append c.put_text-at.ensures
+      (puts-append (puts-as (ap spaced c.n.ensures.value) c.put_spaced-at.ensures.written)
+      (puts-append (puts-as (ap spaced c.places.ensures) c.put_spaced-at-2.ensures.written) c.put.ensures));
   near = omega arith;
 }

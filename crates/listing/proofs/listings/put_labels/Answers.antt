@@ -13,7 +13,7 @@ loop-row-preserved c =
     let rows = c.args.rows.now in
     let i = c.loop-row.row-index in
     let grown = flat_map_more spaced [] (map own (take i rows)) (own (get_or rows i 0)) ∙ ap (flat_map spaced) (sym (map_more own rows i 0 (omega arith))) in (
-      puts-as grown (puts-append c.loop-row.invariant.0 (puts-as (ap spaced c.label.ensures) c.put-spaced-at.ensures.written)),
+      puts-as grown (puts-append c.loop-row.invariant.0 (puts-as (ap spaced c.label.ensures) c.put_spaced-at.ensures.written)),
       omega arith,
     )
 

@@ -9,12 +9,12 @@ use Rattle.listing.proofs.listings.put_line.Goals as goal
 pub returns : goal.returns
 returns c = record {
   written =
-      puts-append c.put-number-at.ensures.written
-      (puts-append (puts-as (ap spaced c.label.ensures) c.put-spaced-at.ensures.written)
-      (puts-append (puts-as (ap spaced c.parent.ensures) c.put-spaced-at-2.ensures.written)
-      (puts-append c.put-text-at.ensures
+      puts-append c.put_number-at.ensures.written
+      (puts-append (puts-as (ap spaced c.label.ensures) c.put_spaced-at.ensures.written)
+      (puts-append (puts-as (ap spaced c.parent.ensures) c.put_spaced-at-2.ensures.written)
+      (puts-append c.put_text-at.ensures
       (puts-append
-      (puts-as (ap (λ rows. flat_map spaced (map (label_in (arrays_of c.args.plan.now)) rows)) c.column.ensures.value) c.put-labels-at.ensures.written)
+      (puts-as (ap (λ rows. flat_map spaced (map (label_in (arrays_of c.args.plan.now)) rows)) c.column.ensures.value) c.put_labels-at.ensures.written)
       c.put.ensures))));
   near = omega (arith, c.column.ensures.short);
 }

@@ -2,4 +2,4 @@ use Rattle.listing.proofs.Writes.{puts-append}
 use Rattle.listing.proofs.listings.put_listing.Goals as goal
 
 pub returns : goal.returns
-returns c = puts-append c.put-head-at.ensures.written c.put-lines.ensures
+returns c = puts-append c.put_head-at.ensures.written c.put_lines.ensures

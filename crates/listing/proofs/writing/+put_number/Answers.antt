@@ -12,7 +12,7 @@ returns-then-number-lt10 t c = record {
 pub returns : goal.returns
 returns t c =
     let w = puts-as (sym (decimal_step c.args.number (omega arith) (omega arith)))
-    (puts-append c.put-number-last.ensures.written c.put-2.ensures) in
+    (puts-append c.put_number-last.ensures.written c.put-2.ensures) in
     record {
       written = w;
       near = omega (arith, w.ends, length-decimal-le 20 c.args.number (omega arith) (omega arith) (omega arith));

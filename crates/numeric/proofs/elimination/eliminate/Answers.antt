@@ -34,9 +34,9 @@ loop-k-preserved g c =
     let k = c.loop-k.k in
     let p : Position a k = record { keeps = c.n-n.ensures.keeps; low = omega arith; high = omega (arith, c.n-n.ensures.value) } in
     let start = c.span-start.ensures in (
-      c.eliminate-column.auto.worked ∙ c.loop-k.invariant.0,
-      run_more o a c.args.entered.now c.loop-k.worked k p c.loop-k.invariant.1 c.span-start.result.0 c.index-worked-start.result c.eliminate-column.new.worked
-          start.first (omega (arith, start.some, start.inside, c.loop-k.invariant.0)) c.index-worked-start.is c.verdict-cause.result c.verdict-cause.ensures c.if-cause-ne0.false c.eliminate-column.ensures,
+      c.eliminate_column.auto.worked ∙ c.loop-k.invariant.0,
+      run_more o a c.args.entered.now c.loop-k.worked k p c.loop-k.invariant.1 c.span-start.result.0 c.index-worked-start.result c.eliminate_column.new.worked
+          start.first (omega (arith, start.some, start.inside, c.loop-k.invariant.0)) c.index-worked-start.is c.verdict-cause.result c.verdict-cause.ensures c.if-cause-ne0.false c.eliminate_column.ensures,
     )
 
 pub returns-else-cause-ne0 : goal.returns-else-cause-ne0
@@ -46,10 +46,10 @@ returns-else-cause-ne0 g c =
     let k = c.loop-k.k in
     let p : Position a k = record { keeps = c.n-n.ensures.keeps; low = omega arith; high = omega (arith, c.n-n.ensures.value) } in
     let start = c.span-start.ensures in
-    let w = c.eliminate-column.new.worked in
+    let w = c.eliminate_column.new.worked in
     let last : size_in a ≡ k + 1 - 1 = omega (arith, c.n-n.ensures.value) in
     let done = run_more o a c.args.entered.now c.loop-k.worked k p c.loop-k.invariant.1 c.span-start.result.0 c.index-worked-start.result w
-    start.first (omega (arith, start.some, start.inside, c.loop-k.invariant.0)) c.index-worked-start.is c.verdict-cause.result c.verdict-cause.ensures c.if-cause-ne0.false c.eliminate-column.ensures in
+    start.first (omega (arith, start.some, start.inside, c.loop-k.invariant.0)) c.index-worked-start.is c.verdict-cause.result c.verdict-cause.ensures c.if-cause-ne0.false c.eliminate_column.ensures in
     eliminates o a c.args.entered.now c.args.worked.now _ w None p.keeps
-    (omega (arith, c.if-entered-places.false, c.places-places.ensures)) (omega (arith, c.if-worked-places.false, c.places-places.ensures)) (c.eliminate-column.auto.worked ∙ c.loop-k.invariant.0)
+    (omega (arith, c.if-entered-places.false, c.places-places.ensures)) (omega (arith, c.if-worked-places.false, c.places-places.ensures)) (c.eliminate_column.auto.worked ∙ c.loop-k.invariant.0)
     (ap (eliminated o (matrix_of o.nothing a c.args.entered.now)) last ∙ done) refl

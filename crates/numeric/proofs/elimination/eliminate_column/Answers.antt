@@ -21,8 +21,8 @@ span-target-requires g c =
     subst (λ l. Position a (get_or l source 0)) (sym c.rows-rows.ensures)
     (row-position a c.args.k c.requires.position source (omega (arith, c.span-start.ensures.first)) (omega (arith, c.span-start.ensures.past)))
 
-pub overflow-sub-target : goal.overflow-sub-target
-overflow-sub-target g c =
+pub overflow_sub-target : goal.overflow_sub-target
+overflow_sub-target g c =
     let a = arrays_of c.args.plan.now in
     let t = aim a c.args.k c.loop-source.source c.span-start.result.0 c.span-start.result.1 c.span-target.result.0 c.span-target.result.1
     c.rows-rows.result.now c.requires.position c.rows-rows.ensures c.span-start.ensures.first c.span-start.ensures.past c.span-target.ensures.first c.span-target.ensures.past
@@ -30,11 +30,11 @@ overflow-sub-target g c =
     let past = column-past _ _ _ _ _ _ _ _ t in
     omega (arith, c.span-start.ensures.some)
 
-pub overflow-sub-stop : goal.overflow-sub-stop
-overflow-sub-stop g c = let h = overflow-sub-target g c in omega (arith, c.span-target.ensures.some)
+pub overflow_sub-stop : goal.overflow_sub-stop
+overflow_sub-stop g c = let h = overflow_sub-target g c in omega (arith, c.span-target.ensures.some)
 
-pub update-column-requires : goal.update-column-requires
-update-column-requires g c =
+pub update_column-requires : goal.update_column-requires
+update_column-requires g c =
     let a = arrays_of c.args.plan.now in
     let t = aim a c.args.k c.loop-source.source c.span-start.result.0 c.span-start.result.1 c.span-target.result.0 c.span-target.result.1
     c.rows-rows.result.now c.requires.position c.rows-rows.ensures c.span-start.ensures.first c.span-start.ensures.past c.span-target.ensures.first c.span-target.ensures.past
@@ -62,11 +62,11 @@ loop-source-preserved g c =
     let source = c.loop-source.source in
     let start = c.span-start.result.0 in
     let w = c.loop-source.worked in
-    let part = c.update-column.new.worked in
+    let part = c.update_column.new.worked in
     let fits : start ≤ length w = omega (arith, c.span-start.ensures.some, c.span-start.ensures.inside, c.requires.long, c.loop-source.auto.worked) in
-    let kept : length part ≡ length w - start = c.update-column.auto.worked ∙ simp (length-take, length-drop) (omega arith) in
+    let kept : length part ≡ length w - start = c.update_column.auto.worked ∙ simp (length-take, length-drop) (omega arith) in
     let whole = updated-whole o w part start fits kept c.rows-rows.result.now source c.span-start.result.1 c.span-target.result.0 c.span-target.result.1
-    (omega arith) (omega arith) c.update-column.ensures in
+    (omega arith) (omega arith) c.update_column.ensures in
     sweep-more o a c.args.k c.requires.position source c.args.worked.now w _ (omega (arith, c.span-start.ensures.first)) (omega (arith, c.span-start.ensures.past)) c.loop-source.invariant
     (updated-there _ _ _ _ _ _ _ _ t o w _ whole)
 

@@ -16,8 +16,8 @@ use Rattle.numeric.proofs.solution.backward_column.Goals as goal
 pub slot-at-requires : goal.slot-at-requires
 slot-at-requires g c = has-label (arrays_of c.args.plan.now) c.args.k c.requires.position c.order-order.result.now c.order-order.ensures
 
-pub offset-bounds-levels-at : goal.offset-bounds-levels-at
-offset-bounds-levels-at g c =
+pub offset_bounds-levels-at : goal.offset_bounds-levels-at
+offset_bounds-levels-at g c =
     let h : c.slot-at.result < length c.args.levels.now = omega (arith, ap length c.order-order.ensures, c.requires.size, c.slot-at.ensures.inside) in
     search rules
 
@@ -29,14 +29,14 @@ slot-requires g c =
     (has-label a (row_at a place) (row-position a c.args.k c.requires.position place (omega (arith, c.span-start.ensures.first)) (omega (arith, c.span-start.ensures.past)))
     c.order-order.result.now c.order-order.ensures)
 
-pub offset-bounds-levels-slot : goal.offset-bounds-levels-slot
-offset-bounds-levels-slot g c =
+pub offset_bounds-levels-slot : goal.offset_bounds-levels-slot
+offset_bounds-levels-slot g c =
     let h : c.slot.result < length c.args.levels.now = omega (arith, ap length c.order-order.ensures, c.requires.size, c.slot.ensures.inside) in
     search rules
 
 pub loop-place-init : goal.loop-place-init
 loop-place-init g c =
-    let s = solvers_of g.N.Arithmetic g.N.Solving in
+    let s = solvers_of g.N.Arithmetic g.N.Solving.taken g.N.Solving.divided in
     let e = g.N.Arithmetic.nothing in
     let a = arrays_of c.args.plan.now in
     let n = size_in a in
@@ -50,7 +50,7 @@ loop-place-init g c =
 
 pub loop-place-preserved : goal.loop-place-preserved
 loop-place-preserved g c =
-    let s = solvers_of g.N.Arithmetic g.N.Solving in
+    let s = solvers_of g.N.Arithmetic g.N.Solving.taken g.N.Solving.divided in
     let e = g.N.Arithmetic.nothing in
     let a = arrays_of c.args.plan.now in
     let n = size_in a in
@@ -74,7 +74,7 @@ loop-place-preserved g c =
 
 pub returns : goal.returns
 returns g c =
-    let s = solvers_of g.N.Arithmetic g.N.Solving in
+    let s = solvers_of g.N.Arithmetic g.N.Solving.taken g.N.Solving.divided in
     let e = g.N.Arithmetic.nothing in
     let a = arrays_of c.args.plan.now in
     let n = size_in a in

@@ -11,7 +11,7 @@ use Rattle.numeric.proofs.solution.backward_column.Given as goal
 -- what is left to take begins past the row of the place before
 abbrev pub invariant-loop-place : goal.invariant-loop-place
 invariant-loop-place g l =
-    let s = solvers_of g.N.Arithmetic g.N.Solving in
+    let s = solvers_of g.N.Arithmetic g.N.Solving.taken g.N.Solving.divided in
     let e = g.N.Arithmetic.nothing in
     let a = arrays_of l.plan in
     let m = matrix_of e a l.worked in

@@ -14,8 +14,8 @@ use Rattle.numeric.proofs.solution.forward_column.Goals as goal
 pub slot-requires : goal.slot-requires
 slot-requires g c = has-label (arrays_of c.args.plan.now) c.args.k c.requires.position c.order-order.result.now c.order-order.ensures
 
-pub offset-bounds-levels-slot : goal.offset-bounds-levels-slot
-offset-bounds-levels-slot g c =
+pub offset_bounds-levels-slot : goal.offset_bounds-levels-slot
+offset_bounds-levels-slot g c =
     let h : c.slot.result < length c.args.levels.now = omega (arith, ap length c.order-order.ensures, c.requires.size, c.slot.ensures.inside) in
     search rules
 
@@ -27,13 +27,13 @@ slot-at-requires g c =
     (has-label a (row_at a place) (row-position a c.args.k c.requires.position place (omega (arith, c.span-start.ensures.first)) (omega (arith, c.span-start.ensures.past)))
     c.order-order.result.now c.order-order.ensures)
 
-pub offset-bounds-levels-at : goal.offset-bounds-levels-at
-offset-bounds-levels-at g c =
+pub offset_bounds-levels-at : goal.offset_bounds-levels-at
+offset_bounds-levels-at g c =
     let h : c.slot-at.result < length c.args.levels.now = omega (arith, ap length c.order-order.ensures, c.requires.size, c.slot-at.ensures.inside) in
     search rules
 
-pub offset-bounds-levels-at-in-loop-place : goal.offset-bounds-levels-at-in-loop-place
-offset-bounds-levels-at-in-loop-place g c =
+pub offset_bounds-levels-at-in-loop-place : goal.offset_bounds-levels-at-in-loop-place
+offset_bounds-levels-at-in-loop-place g c =
     let h : c.slot-at.result < length c.args.levels.now = omega (arith, ap length c.order-order.ensures, c.requires.size, c.slot-at.ensures.inside) in
     search rules
 

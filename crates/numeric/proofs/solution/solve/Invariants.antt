@@ -19,7 +19,7 @@ invariant-loop-k g l =
 -- back over the positions past k
 abbrev pub invariant-loop-k-2 : goal.invariant-loop-k-2
 invariant-loop-k-2 g l =
-    let s = solvers_of g.N.Arithmetic g.N.Solving in
+    let s = solvers_of g.N.Arithmetic g.N.Solving.taken g.N.Solving.divided in
     let e = g.N.Arithmetic.nothing in
     let a = arrays_of l.plan in
     let n = size_in a in

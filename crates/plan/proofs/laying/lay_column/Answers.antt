@@ -11,8 +11,8 @@ bounds-cells-v c = omega (arith, c.requires.labels c.args.k c.requires.within, c
 pub bounds-links-v : goal.bounds-links-v
 bounds-links-v c = omega (arith, c.requires.labels c.args.k c.requires.within, c.requires.labels c.loop-i.i (omega arith), c.requires.size)
 
-pub push-reserved-requires : goal.push-reserved-requires
-push-reserved-requires c =
+pub push_reserved-requires : goal.push_reserved-requires
+push_reserved-requires c =
     let test = at_positions c.args.order.now c.args.cells.now (c.args.k + 1) in
     let yes' = at-is c.args.order.now c.args.cells.now c.args.k c.loop-i.i ∙ c.if-cells-v.true in
     let more = rest-yes test (length c.args.order.now) c.loop-i.i (omega arith) yes' in
@@ -25,8 +25,8 @@ push-reserved-requires c =
       c.requires.room,
     )
 
-pub push-reserved-requires-then-cells-v : goal.push-reserved-requires-then-cells-v
-push-reserved-requires-then-cells-v c =
+pub push_reserved-requires-then-cells-v : goal.push_reserved-requires-then-cells-v
+push_reserved-requires-then-cells-v c =
     let test = at_positions c.args.order.now c.args.cells.now (c.args.k + 1) in
     let mark = at_positions c.args.order.now c.args.links.now (c.args.k + 1) in
     let yes' = at-is c.args.order.now c.args.cells.now c.args.k c.loop-i.i ∙ c.if-cells-v.true in
@@ -49,11 +49,11 @@ loop-i-preserved c =
       | goal.then-cells-v w ↦
           (let yes' = at-is c.args.order.now c.args.cells.now c.args.k c.loop-i.i ∙ w.if-cells-v.true in
           let more = rest-yes test (length c.args.order.now) c.loop-i.i (omega arith) yes' in (
-            moves (vec_items c.loop-i.rows) _ _ _ _ _ _ (ap vec_items w.rows-is ∙ w.push-reserved.ensures.items) refl c.loop-i.invariant.0 more,
-            moves (vec_items c.loop-i.marks) _ _ _ _ _ _ (ap vec_items w.marks-is ∙ w.push-reserved-then-cells-v.ensures.items)
+            moves (vec_items c.loop-i.rows) _ _ _ _ _ _ (ap vec_items w.rows-is ∙ w.push_reserved.ensures.items) refl c.loop-i.invariant.0 more,
+            moves (vec_items c.loop-i.marks) _ _ _ _ _ _ (ap vec_items w.marks-is ∙ w.push_reserved-then-cells-v.ensures.items)
                 (sym (at-is c.args.order.now c.args.links.now c.args.k c.loop-i.i)) c.loop-i.invariant.1 (ap (map mark) more),
-            ap vec_capacity w.rows-is ∙ w.push-reserved.ensures.capacity ∙ c.loop-i.invariant.2,
-            ap vec_capacity w.marks-is ∙ w.push-reserved-then-cells-v.ensures.capacity ∙ c.loop-i.invariant.3,
+            ap vec_capacity w.rows-is ∙ w.push_reserved.ensures.capacity ∙ c.loop-i.invariant.2,
+            ap vec_capacity w.marks-is ∙ w.push_reserved-then-cells-v.ensures.capacity ∙ c.loop-i.invariant.3,
           ))
       | goal.else-cells-v w ↦
           (let no' = at-is c.args.order.now c.args.cells.now c.args.k c.loop-i.i ∙ w.if-cells-v.false in

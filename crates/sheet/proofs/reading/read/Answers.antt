@@ -6,27 +6,27 @@ use Rattle.sheet.proofs.Runs.{seen_as, run-fault, run_none, run_more, run-stop, 
 use Rattle.sheet.proofs.Steps.{led}
 use Rattle.sheet.proofs.reading.read.Goals as goal
 
-pub returns-in-err-word : goal.returns-in-err-word
-returns-in-err-word c =
-    let p = err_from_is_err_and c.from-residual.result c.from-residual.ensures.1 in
-    let e = sym (c.loop-reader.invariant.0 ∙ run-fault _ _ _ _ c.in-err-word.ensures) in
-    rw (p.1, p.2) (record { exact = e; layout = reads-from _ _ (λ i _. omega (arith, c.type-inv.bytes i)) e; layouts = reads-layouts; one = one-sheet; front = reads-front })
+pub returns-in_err-word : goal.returns-in_err-word
+returns-in_err-word c =
+    let p = err_from_is_err_and c.from_residual.result c.from_residual.ensures.1 in
+    let e = sym (c.loop-reader.invariant.0 ∙ run-fault _ _ _ _ c.in_err-word.ensures) in
+    rw (p.1, p.2) (record { exact = e; layout = reads-from _ _ (λ i _. omega (arith, c.type_inv.bytes i)) e; layouts = reads-layouts; one = one-sheet; front = reads-front })
 
-pub returns-in-err-accept : goal.returns-in-err-accept
-returns-in-err-accept c =
-    let h = seen_as c.in-Some.is c.in-ok-word.ensures in
-    let p = err_from_is_err_and c.from-residual-in-err-accept.result c.from-residual-in-err-accept.ensures.1 in
-    let e = sym (c.loop-reader.invariant.0 ∙ run-stop _ _ _ _ _ h _ (sym c.in-err-accept.ensures)) in
-    rw (p.1, p.2) (record { exact = e; layout = reads-from _ _ (λ i _. omega (arith, c.type-inv.bytes i)) e; layouts = reads-layouts; one = one-sheet; front = reads-front })
+pub returns-in_err-accept : goal.returns-in_err-accept
+returns-in_err-accept c =
+    let h = seen_as c.in-Some.is c.in_ok-word.ensures in
+    let p = err_from_is_err_and c.from_residual-in_err-accept.result c.from_residual-in_err-accept.ensures.1 in
+    let e = sym (c.loop-reader.invariant.0 ∙ run-stop _ _ _ _ _ h _ (sym c.in_err-accept.ensures)) in
+    rw (p.1, p.2) (record { exact = e; layout = reads-from _ _ (λ i _. omega (arith, c.type_inv.bytes i)) e; layouts = reads-layouts; one = one-sheet; front = reads-front })
 
 pub loop-reader-preserved : goal.loop-reader-preserved
 loop-reader-preserved c =
-    let h = seen_as c.in-Some.is c.in-ok-word.ensures in
-    let e = sym c.in-ok-accept.ensures in
+    let h = seen_as c.in-Some.is c.in_ok-word.ensures in
+    let e = sym c.in_ok-accept.ensures in
     (c.loop-reader.invariant.0 ∙ run_more _ _ _ _ _ h _ e, omega (arith, four-less c.loop-reader.rest.now c.in-Some.after.now c.loop-reader.at c.in-Some.word h), (led _ _ _ _ c.loop-reader.invariant.2 e).0)
 
 pub returns : goal.returns
 returns c =
-    let h = seen_as c.in-default.is c.in-ok-word.ensures in
+    let h = seen_as c.in_default.is c.in_ok-word.ensures in
     let e = c.finish.ensures ∙ sym (c.loop-reader.invariant.0 ∙ run_none _ _ _ h) in
-    record { exact = e; layout = reads-from _ _ (λ i _. omega (arith, c.type-inv.bytes i)) e; layouts = reads-layouts; one = one-sheet; front = reads-front }
+    record { exact = e; layout = reads-from _ _ (λ i _. omega (arith, c.type_inv.bytes i)) e; layouts = reads-layouts; one = one-sheet; front = reads-front }

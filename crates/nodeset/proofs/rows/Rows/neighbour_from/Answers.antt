@@ -14,4 +14,4 @@ pub returns : goal.returns
 returns c =
     let me = c.args.self.now in
     let row = get_or_read_under (vec_items me.sets) c.args.a (vec_len me.sets) c.index.result.now no_nodes c.index.ensures (omega (arith, me.all, c.if-a-ge512.false)) me.sets.ok.0 in
-    c.first-from.ensures ∙ ap (λ s. first_of (has s) c.args.b (512 - c.args.b)) row
+    c.first_from.ensures ∙ ap (λ s. first_of (has s) c.args.b (512 - c.args.b)) row

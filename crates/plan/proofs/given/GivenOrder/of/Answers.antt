@@ -19,7 +19,7 @@ loop-i-preserved c =
     let is = c.order-order.ensures in
     let i = c.loop-i.i in
     let x = get_or order i 0 in
-    let some : 0 < length s.order = omega (arith, eqb-false (length order) 0 (sym c.if-is-empty.ensures), ap (λ l. length l) is) in
+    let some : 0 < length s.order = omega (arith, eqb-false (length order) 0 (sym c.if-is_empty.ensures), ap (λ l. length l) is) in
     let long : length order ≡ c.n-i-end.result = ap (λ l. length l) is ∙ law.whole some ∙ sym c.n-i-end.ensures.value in
     let at : get_or order i 0 ≡ get_or s.order i 0 = ap (λ l. get_or l i 0) is in
     let label = law.rules.ordered i (omega (arith, long, ap (λ l. length l) is)) in
@@ -38,6 +38,6 @@ returns c =
     let law = c.n-i-end.ensures.lawful in
     let order = c.order-order.result.now in
     let is = c.order-order.ensures in
-    let some : 0 < length s.order = omega (arith, eqb-false (length order) 0 (sym c.if-is-empty.ensures), ap (λ l. length l) is) in
+    let some : 0 < length s.order = omega (arith, eqb-false (length order) 0 (sym c.if-is_empty.ensures), ap (λ l. length l) is) in
     let long : length order ≡ c.n-i-end.result = ap (λ l. length l) is ∙ law.whole some ∙ sym c.n-i-end.ensures.value in
     (some, fun_ext (λ v. fun_ext (λ d. c.loop-i.invariant.1 v ∙ ap (λ l. place_from 1 l v) (take_all c.loop-i.i order (omega (arith, long)) ∙ is))))

@@ -2,27 +2,27 @@ use Rattle.std.proofs.Common.{◌≡◌, sym, refl, ◌∙◌, arith}
 use Rattle.plan.proofs.Runs.{advances, too_many, few-enough}
 use Rattle.plan.proofs.planner.Planner.eliminate_all.Goals as goal
 
-pub returns-then-self-gt-MOST-PLACES : goal.returns-then-self-gt-MOST-PLACES
-returns-then-self-gt-MOST-PLACES g c =
+pub returns-then-self-gt-MOST_PLACES : goal.returns-then-self-gt-MOST_PLACES
+returns-then-self-gt-MOST_PLACES g c =
     let price = g.R.Rule.priced c.args.rule.now in
-    let size = c.eliminate-next.ensures.size ∙ c.loop-k.invariant.0 in
+    let size = c.eliminate_next.ensures.size ∙ c.loop-k.invariant.0 in
     record {
       size = size;
       ends = λ linked two-way st. (
         refl,
-        too_many price c.args.self.now.n linked _ c.eliminate-next.new.self size (omega arith) (omega arith)
-            (advances price c.loop-k.self c.eliminate-next.new.self c.args.self.now.n linked c.loop-k.k c.loop-k.invariant.0 two-way (omega arith) c.eliminate-next.ensures.stands (c.loop-k.invariant.3 linked two-way st)),
+        too_many price c.args.self.now.n linked _ c.eliminate_next.new.self size (omega arith) (omega arith)
+            (advances price c.loop-k.self c.eliminate_next.new.self c.args.self.now.n linked c.loop-k.k c.loop-k.invariant.0 two-way (omega arith) c.eliminate_next.ensures.stands (c.loop-k.invariant.3 linked two-way st)),
       );
     }
 
 pub loop-k-preserved : goal.loop-k-preserved
 loop-k-preserved g c =
     let price = g.R.Rule.priced c.args.rule.now in (
-      c.eliminate-next.ensures.size ∙ c.loop-k.invariant.0,
-      omega (arith, c.eliminate-next.ensures.longer, c.loop-k.invariant.1),
+      c.eliminate_next.ensures.size ∙ c.loop-k.invariant.0,
+      omega (arith, c.eliminate_next.ensures.longer, c.loop-k.invariant.1),
       omega arith,
       λ linked two-way st.
-          advances price c.loop-k.self c.eliminate-next.new.self c.args.self.now.n linked c.loop-k.k c.loop-k.invariant.0 two-way (omega arith) c.eliminate-next.ensures.stands (c.loop-k.invariant.3 linked two-way st),
+          advances price c.loop-k.self c.eliminate_next.new.self c.args.self.now.n linked c.loop-k.k c.loop-k.invariant.0 two-way (omega arith) c.eliminate_next.ensures.stands (c.loop-k.invariant.3 linked two-way st),
     )
 
 pub returns : goal.returns

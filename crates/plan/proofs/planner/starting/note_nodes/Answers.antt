@@ -10,9 +10,9 @@ loop-a-init c = (nil_from_length (vec_items c.args.nodes.now) (omega (arith, c.a
 
 pub loop-a-preserved : goal.loop-a-preserved
 loop-a-preserved c = (
-  c.push-reserved.ensures.items
-      ∙ ap₂ (λ xs d. xs ++ record { degree = d; gone = false } ∷ []) c.loop-a.invariant.0 c.count-row-degree.ensures
+  c.push_reserved.ensures.items
+      ∙ ap₂ (λ xs d. xs ++ record { degree = d; gone = false } ∷ []) c.loop-a.invariant.0 c.count_row-degree.ensures
       ∙ sym (map-range_with_len_more (λ a. record { degree = count_below (cell c.args.cells.now a) c.args.n; gone = false }) 0 c.loop-a.a c.loop-a.a (omega arith)),
-  omega (arith, c.push-reserved.ensures.len, c.loop-a.invariant.1),
-  c.push-reserved.ensures.capacity ∙ c.loop-a.invariant.2,
+  omega (arith, c.push_reserved.ensures.len, c.loop-a.invariant.1),
+  c.push_reserved.ensures.capacity ∙ c.loop-a.invariant.2,
 )

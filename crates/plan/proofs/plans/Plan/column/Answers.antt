@@ -3,18 +3,18 @@ use Rattle.std.specs.List.{between}
 use Rattle.plan.proofs.Spans.{Span, span-read, part-above, part-rises}
 use Rattle.plan.proofs.plans.Plan.column.Goals as goal
 
-pub slice-bounds-result-count : goal.slice-bounds-result-count
-slice-bounds-result-count c =
+pub slice_bounds-result-count : goal.slice_bounds-result-count
+slice_bounds-result-count c =
     omega (arith, (span-read c.args.self.now c.args.k _ _ c.requires.0 (omega (arith, c.requires.1, c.args.self.now.order.ok.0)) c.index.ensures c.index-2.ensures).some)
 
-pub slice-bounds-result-start : goal.slice-bounds-result-start
-slice-bounds-result-start c =
+pub slice_bounds-result-start : goal.slice_bounds-result-start
+slice_bounds-result-start c =
     let t = span-read c.args.self.now c.args.k _ _ c.requires.0 (omega (arith, c.requires.1, c.args.self.now.order.ok.0)) c.index.ensures c.index-2.ensures in
     let s : c.index.result.now + 1 ≤ c.index-2.result.now = omega (arith, t.some) in
     search rules
 
-pub slice-bounds-result-end : goal.slice-bounds-result-end
-slice-bounds-result-end c =
+pub slice_bounds-result-end : goal.slice_bounds-result-end
+slice_bounds-result-end c =
     let t = span-read c.args.self.now c.args.k _ _ c.requires.0 (omega (arith, c.requires.1, c.args.self.now.order.ok.0)) c.index.ensures c.index-2.ensures in
     let s : c.index-2.result.now ≤ vec_len c.args.self.now.rows = t.inside in
     search rules

@@ -11,7 +11,7 @@ pub loop-label-preserved : goal.loop-label-preserved
 loop-label-preserved g c =
     let xs = c.args.self.now.0.now in
     let i = c.loop-label.label-index in
-    so_far_more _ {h = c.write.new.self} (flat_map_more spaced_label [] (take i xs) _ ∙ ap spaced (sym (take_more xs i 0 (omega arith)))) c.loop-label.invariant c.in-ok-write.ensures.shows
+    so_far_more _ {h = c.write.new.self} (flat_map_more spaced_label [] (take i xs) _ ∙ ap spaced (sym (take_more xs i 0 (omega arith)))) c.loop-label.invariant c.in_ok-write.ensures.writes
 
 pub returns-clause-writes : goal.returns-clause-writes
 returns-clause-writes g c = λ p ok.

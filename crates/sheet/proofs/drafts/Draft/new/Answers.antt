@@ -6,10 +6,15 @@ use Rattle.sheet.proofs.drafts.Draft.new.Goals as goal
 nothing : {X Z : Type 0} (v : Vec X Z) → vec_len v ≡ 0 → vec_items v ≡ []
 nothing v e = nil_from_length _ (sym v.ok.0 ∙ e)
 
-pub invariant-of-result : goal.invariant-of-result
-invariant-of-result c =
+pub invariant_of-result : goal.invariant_of-result
+invariant_of-result c =
     let r = c.args.room in
-    (omega arith, (r.links_room, (r.order_room, (λ a b h. r.shows a b h ∙ ap (λ l. linked_in l a b) (sym (nothing r.links r.no_links)), tt))))
+    record {
+      size = omega arith;
+      links_room = r.links_room;
+      order_room = r.order_room;
+      shows = λ a b h. r.shows a b h ∙ ap (λ l. linked_in l a b) (sym (nothing r.links r.no_links));
+    }
 
 both : (l : List (ℕ × ℕ)) (o : List ℕ) → l ≡ [] → o ≡ [] → ◌≡◌ {A = Pattern} (record { n = 0; links = l; order = o }) (record { n = 0; links = []; order = [] })
 both l o e f = rw (e, f)
