@@ -1,5 +1,5 @@
 -- The residues form a field.
-use Rattle.std.proofs.Common.{◌≡◌, ℕ, ◌+◌, ◌-◌, ◌*◌, false, cond, sym, refl, ap, ◌∙◌, ⊎_elim, add_assoc, mod-eq_of_lt, mul_assoc, mul_comm, add_comm, mul-zero, mul-one, mul-add, arith}
+use Rattle.std.proofs.Common.{◌≡◌, ℕ, ◌+◌, ◌*◌, false, cond, sym, refl, ap, ◌∙◌, ⊎_elim, add_assoc, mod-eq_of_lt, mul_assoc, mul_comm, add_comm, mul-zero, mul-one, mul-add, arith}
 use native.Mathlib.Nat.{mod-add-mod, add-mod-mod, add-mod}
 use Rattle.std.proofs.lemmas.Bool.{cases_Bool, eqb-true}
 use Rattle.arith.specs.declared.residues.Residue.{Residue}

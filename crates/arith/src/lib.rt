@@ -1,4 +1,6 @@
 //! The kinds of number that elimination and solving work with.
+#![tactic(auto)]
+
 pub mod arithmetic;
 pub mod floats;
 pub mod marks;

@@ -1,5 +1,7 @@
 //! Answers questions about the arithmetics: reads one a line from standard input, and prints what the function that it names
 //! gives for the numbers in it.
+#![tactic(auto)]
+
 use crate::answers::Answer;
 use crate::questions::answer_to;
 use std::io::{BufRead, BufReader};

@@ -1,4 +1,6 @@
 //! Reading, ordering and layout of a sheet, again and again, for the benchmark's driver in C.
+#![tactic(auto)]
+
 use plan::making::make;
 use plan::rules::LeastDegree;
 use sheet::reading::read;

@@ -1,11 +1,11 @@
 -- Which positions a column has.
-use Rattle.std.proofs.Common.{◌≡◌, ℕ, ◌+◌, ◌-◌, ◌<◌, ◌≤◌, Bool, true, false, ◌&&◌, List, [], ◌∷◌, sym, refl, ap, ◌∙◌, inl, inr, arith}
+use Rattle.std.proofs.Common.{◌≡◌, ℕ, ◌+◌, ◌-◌, ◌<◌, ◌≤◌, Bool, true, ◌&&◌, sym, ap, ◌∙◌, inl, inr, arith}
 use Rattle.std.specs.List.{range_with_len}
 use Rattle.std.proofs.lemmas.Bool.{and_parts, cases_lt, both_ways}
 use Rattle.graph.specs.Columns.{in_column, column, member}
 use Rattle.graph.specs.Graphs.{start}
 use Rattle.graph.specs.Picking.{Price}
-use Rattle.graph.proofs.Orders.{occurs, member-from, member-none, member-kept, counting-within, counting-past, counting-outside}
+use Rattle.graph.proofs.Orders.{member-from, member-none, member-kept, counting-within, counting-past, counting-outside}
 
 module _ (price : Price) (n : ℕ) (linked : ℕ → ℕ → Bool) where
   -- of the later positions, those that the process joins

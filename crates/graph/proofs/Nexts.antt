@@ -1,9 +1,9 @@
 -- The label that goes is the one next label: least price, and of equal prices the lowest.
-use Rattle.std.proofs.Common.{◌≡◌, ℕ, zero, suc, ◌+◌, ◌<◌, ◌≤◌, Bool, true, false, cond, not, eqb, ltb, ◌⊎◌, List, [], ◌∷◌, length, filter, sym, refl, ap, ◌∙◌, subst, inl, inr, ⊎_elim, arith}
+use Rattle.std.proofs.Common.{◌≡◌, ℕ, zero, suc, ◌+◌, ◌<◌, ◌≤◌, Bool, true, false, cond, not, eqb, ltb, ◌⊎◌, List, [], ◌∷◌, filter, sym, refl, ap, subst, inl, inr, ⊎_elim, arith}
 use Rattle.std.specs.List.{range_with_len}
 use Rattle.std.proofs.lemmas.Bool.{or_cases, or_left, or_right, eqb-true, eq-eqb, ltb-true, ltb-false}
 use Rattle.graph.specs.Columns.{member}
-use Rattle.graph.specs.Graphs.{Graph, start, degree}
+use Rattle.graph.specs.Graphs.{start, degree}
 use Rattle.graph.specs.Picking.{Price, least, first_of, next, remaining, picked}
 use Rattle.graph.specs.Theorems.{IsNext, PicksNext}
 use Rattle.graph.proofs.Orders.{left_at, lengths, first-among, member-from}

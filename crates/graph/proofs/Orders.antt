@@ -1,10 +1,10 @@
 -- Each label of 1 to n goes once: by counting how often a label stands among those that are left.
-use Rattle.std.proofs.Common.{◌≡◌, ℕ, zero, suc, ◌+◌, ◌-◌, ◌<◌, ◌≤◌, Bool, true, false, cond, not, ◌&&◌, ◌||◌, eqb, ltb, ◌≢◌, ◌⊎◌, List, [], ◌∷◌, length, get_or, filter, sym, refl, ap, ◌∙◌, inl, inr, add-one, arith}
+use Rattle.std.proofs.Common.{◌≡◌, ℕ, zero, suc, ◌+◌, ◌-◌, ◌<◌, ◌≤◌, Bool, true, false, cond, not, ◌&&◌, ◌||◌, eqb, ltb, ◌≢◌, ◌⊎◌, List, [], ◌∷◌, length, filter, sym, refl, ap, ◌∙◌, inl, inr, arith}
 use Rattle.std.specs.List.{range_with_len}
 use Rattle.std.proofs.lemmas.List.FromFn.{length-range_with_len}
-use Rattle.std.proofs.lemmas.Bool.{eqb-true, eqb-false, eq-eqb, ne_eqb, cases_Bool, cases_eq, cases_lt, or_left, or_right, or_from}
-use Rattle.graph.specs.Columns.{in_column, member}
-use Rattle.graph.specs.Graphs.{Graph, degree, start, neighbours}
+use Rattle.std.proofs.lemmas.Bool.{eqb-true, eq-eqb, ne_eqb, cases_Bool, cases_eq, cases_lt, or_left, or_right, or_from}
+use Rattle.graph.specs.Columns.{member}
+use Rattle.graph.specs.Graphs.{degree, start}
 use Rattle.graph.specs.Picking.{Price, least, first_of, remaining, picked}
 use Rattle.graph.specs.Theorems.{Permutes, HoldsNeighbours}
 

@@ -1,7 +1,7 @@
 -- The links when j are gone are the paths whose inner labels are gone.
-use Rattle.std.proofs.Common.{◌≡◌, ℕ, zero, suc, ◌+◌, ◌-◌, ◌<◌, ◌≤◌, Bool, true, ◌&&◌, ◌||◌, ◌⊎◌, sym, refl, ap, ◌∙◌, subst, inl, inr, ⊎_elim, arith}
+use Rattle.std.proofs.Common.{◌≡◌, ℕ, zero, suc, ◌-◌, ◌<◌, ◌≤◌, Bool, true, ◌&&◌, ◌⊎◌, sym, refl, ap, ◌∙◌, subst, inl, inr, ⊎_elim, arith}
 use Rattle.std.proofs.lemmas.Bool.{or_cases, or_left, or_right, and_parts, and_from, cases_lt}
-use Rattle.graph.specs.Columns.{label_at, column}
+use Rattle.graph.specs.Columns.{label_at}
 use Rattle.graph.specs.Graphs.{Graph, start}
 use Rattle.graph.specs.Picking.{Price, remaining, picked}
 use Rattle.graph.specs.Theorems.{Path, TwoWay, ColumnsArePaths}

@@ -1,5 +1,5 @@
 -- The columns of the filled pattern, the elimination tree and the fill. Positions count from 1 here.
-use Rattle.std.specs.Prelude.{ℕ, zero, suc, ◌+◌, ◌-◌, Bool, false, cond, not, ◌||◌, List, [], ◌∷◌, map, length, filter, ◌==◌}
+use Rattle.std.specs.Prelude.{ℕ, zero, suc, ◌+◌, ◌-◌, Bool, false, not, ◌||◌, List, [], ◌∷◌, map, length, filter, ◌==◌}
 use Rattle.std.specs.List.{range_with_len, flat_map}
 use Rattle.graph.specs.Graphs.{Graph}
 use Rattle.graph.specs.Picking.{Price, next, remaining, picked}

@@ -1,5 +1,5 @@
 -- Six small patterns, worked by the definitions.
-use Rattle.std.specs.Prelude.{◌≡◌, ℕ, Bool, true, false, ◌&&◌, ◌||◌, List, [], ◌∷◌, map, length, ◌==◌}
+use Rattle.std.specs.Prelude.{◌≡◌, ℕ, Bool, false, ◌&&◌, ◌||◌, List, [], ◌∷◌, map, length, ◌==◌}
 use Rattle.std.specs.List.{range_with_len}
 use Rattle.graph.specs.Columns.{columns, places, parent, fill}
 use Rattle.graph.specs.Graphs.{Graph, start}

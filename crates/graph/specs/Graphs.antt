@@ -1,5 +1,5 @@
 -- The graph that an elimination works on.
-use Rattle.std.specs.Prelude.{ℕ, Bool, not, ◌&&◌, ◌||◌, List, [], ◌∷◌, length, filter, ◌==◌}
+use Rattle.std.specs.Prelude.{ℕ, Bool, not, ◌&&◌, ◌||◌, List, length, filter, ◌==◌}
 use Rattle.std.specs.List.{range_with_len}
 
 -- The labels that are left, ascending, and whether two labels are linked. Links of labels that are gone are kept, so that

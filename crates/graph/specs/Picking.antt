@@ -1,5 +1,5 @@
 -- Which label goes next. Counts here are of the labels that are gone: the label that is picked when k are gone has position k + 1.
-use Rattle.std.specs.Prelude.{ℕ, zero, suc, ◌+◌, ◌-◌, ◌^◌, Bool, cond, List, [], ◌∷◌, map, ◌==◌, nat_lt}
+use Rattle.std.specs.Prelude.{ℕ, zero, suc, ◌+◌, ◌-◌, ◌^◌, cond, List, [], ◌∷◌, map, ◌==◌, nat_lt}
 use Rattle.std.specs.List.{range_with_len}
 use Rattle.graph.specs.Graphs.{Graph, degree, eliminate}
 

@@ -1,5 +1,5 @@
 -- What every elimination keeps, for every price, every n and all links.
-use Rattle.std.specs.Prelude.{◌≡◌, ℕ, ◌-◌, ◌<◌, ◌≤◌, Bool, true, ◌&&◌, ◌||◌, ◌⊎◌, ◌↔◌, List, ◌≢◌}
+use Rattle.std.specs.Prelude.{◌≡◌, ℕ, ◌<◌, ◌≤◌, Bool, true, ◌&&◌, ◌||◌, ◌⊎◌, ◌↔◌, ◌≢◌}
 use Rattle.graph.specs.Columns.{in_column, label_at, column, parent, ancestor, member, any_below}
 use Rattle.graph.specs.Graphs.{Graph, start, neighbours, degree}
 use Rattle.graph.specs.Picking.{Price, remaining, picked}

@@ -1,4 +1,6 @@
 //! The elimination graph: the definitions that plans are proved against, and what every elimination keeps.
+#![tactic(auto)]
+
 ghost use Rattle.std.specs.Prelude.{ℕ, Bool};
 ghost use Rattle.graph.specs.Examples.{WorkedPatterns};
 ghost use Rattle.graph.specs.Picking.{Price};

@@ -1,5 +1,5 @@
 -- One column eliminated: the columns of its rows are updated one by one, and the matrix of the table takes one step.
-use Rattle.std.proofs.Common.{◌≡◌, ℕ, ◌+◌, ◌<◌, ◌≤◌, true, false, ◌&&◌, ltb, leb, List, get_or, sym, refl, ap, ◌∙◌, inl, inr, arith}
+use Rattle.std.proofs.Common.{◌≡◌, ℕ, ◌+◌, ◌<◌, ◌≤◌, false, ◌&&◌, ltb, leb, List, get_or, sym, refl, ap, ◌∙◌, inl, inr, arith}
 use Rattle.std.proofs.lemmas.Bool.{cases_eq, cases_lt, cases_Bool, and_parts, and_from, lt-ltb, le-leb, ltb-true, leb-true, cond-true, cond-false, both_ways}
 use Rattle.arith.specs.Operations.{Operations}
 use Rattle.plan.specs.Lookups.{start_in}

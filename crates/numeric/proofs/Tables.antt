@@ -1,5 +1,5 @@
 -- A table is determined by its matrix.
-use Rattle.std.proofs.Common.{◌≡◌, ℕ, zero, suc, ◌+◌, ◌-◌, ◌<◌, ◌≤◌, true, cond, List, ◌∷◌, ◌++◌, map, length, get_or, take, drop, Err, Option, Result, sym, refl, ap, ◌∙◌, ap₂, arith}
+use Rattle.std.proofs.Common.{◌≡◌, ℕ, zero, suc, ◌+◌, ◌-◌, ◌<◌, ◌≤◌, true, List, ◌∷◌, ◌++◌, map, length, get_or, take, drop, Err, Option, Result, sym, refl, ap, ◌∙◌, ap₂, arith}
 use Rattle.std.specs.List.{between, range_with_len, flat_map}
 use Rattle.std.proofs.lemmas.List.Edits.{length-between, get_or-between}
 use Rattle.std.proofs.lemmas.List.{ext_get_or, length-map, get_or-map, take-append-drop, take-take, drop-take, take_all}
@@ -10,7 +10,6 @@ use Rattle.plan.specs.Planned.{Arrays, Keeps}
 use Rattle.plan.proofs.Lays.{joined-more}
 use Rattle.square.specs.declared.refusals.Refusal.{Refusal}
 use Rattle.square.specs.declared.refusals.Refusal.TheVariants.{WrongLength}
-use Rattle.square.specs.Elimination.{Work}
 use Rattle.square.specs.Plans.{matrix_of}
 use Rattle.numeric.specs.Calls.{table_of, work_of, answer_of, both_fit, Eliminates}
 use Rattle.numeric.specs.Positions.{Position}

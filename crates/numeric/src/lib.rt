@@ -1,4 +1,6 @@
 //! Elimination and solving in the tables that a plan lays out, equal to those in the full square.
+#![tactic(auto)]
+
 mod columns;
 pub mod elimination;
 pub mod solution;

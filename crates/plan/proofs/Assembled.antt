@@ -1,18 +1,18 @@
 -- The columns of the definition, laid out, are a plan's arrays.
-use Rattle.std.proofs.Common.{◌≡◌, ℕ, zero, suc, ◌+◌, ◌-◌, ◌*◌, ◌<◌, ◌≤◌, Bool, true, false, cond, not, ◌&&◌, ◌||◌, eqb, ltb, leb, ◌≢◌, ◌⊎◌, List, [], ◌∷◌, ◌++◌, map, length, get_or, drop, filter, sym, refl, ap, ◌∙◌, subst, ap₂, inl, inr, arith}
+use Rattle.std.proofs.Common.{◌≡◌, ℕ, zero, suc, ◌+◌, ◌-◌, ◌<◌, ◌≤◌, Bool, true, false, cond, ◌&&◌, ◌||◌, eqb, List, [], ◌∷◌, ◌++◌, map, length, get_or, drop, filter, sym, refl, ap, ◌∙◌, ap₂, inl, inr, arith}
 use Rattle.std.specs.List.{range_with_len, flat_map, AllByRecursion as All}
-use Rattle.std.proofs.lemmas.List.FromFn.{get_or-map-range_with_len, length-map-range_with_len, length-range_with_len}
+use Rattle.std.proofs.lemmas.List.FromFn.{get_or-map-range_with_len}
 use Rattle.std.proofs.ByRecursion.{All-append, All-get_or}
-use Rattle.std.proofs.lemmas.List.{append_assoc, length-append, length-map, drop_at, get_or-drop, get_or_append_left, ext_get_or}
-use Rattle.std.proofs.lemmas.Bool.{cases_lt, cases_eq, cases_Bool, eqb-true, eq-eqb, ne_eqb, and_left, and_right, or_from, true≢false}
+use Rattle.std.proofs.lemmas.List.{append_assoc, length-append, drop_at, get_or-drop, get_or_append_left}
+use Rattle.std.proofs.lemmas.Bool.{cases_lt, eqb-true, ne_eqb, and_right, or_from, true≢false}
 use Rattle.graph.specs.Columns.{in_column, column, places, member, any_below}
 use Rattle.graph.specs.Graphs.{Graph}
 use Rattle.graph.specs.Picking.{Price, picked}
 use Rattle.graph.proofs.Equations.{linked-after}
 use Rattle.graph.proofs.Orders.{member-kept, and_none, counting-within, counting-outside, member-from, member-none}
-use Rattle.plan.specs.Layout.{Undoes, Starts, Diagonals, Rises, Within, among_rows, holds, marked, on_sheet, Closed}
+use Rattle.plan.specs.Layout.{Starts, Diagonals, Rises, Within, among_rows, holds, marked, on_sheet, Closed}
 use Rattle.plan.specs.Laid.{laid_rows, laid_starts, laid_marks, sheet_link}
-use Rattle.plan.proofs.Lays.{joined-grows, rows_fit, marks-length}
+use Rattle.plan.proofs.Lays.{rows_fit, marks-length}
 
 joined-split : {X : Type 0} (f : ℕ → List X) (m a d : ℕ) → flat_map f (range_with_len a (m + d)) ≡ flat_map f (range_with_len a m) ++ flat_map f (range_with_len (a + m) d)
 joined-split f zero a d =

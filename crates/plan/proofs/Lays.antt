@@ -1,10 +1,10 @@
 -- Columns laid out, row by row and column by column.
-use Rattle.std.proofs.Common.{◌≡◌, ℕ, zero, suc, ◌+◌, ◌-◌, ◌*◌, ◌<◌, ◌≤◌, Bool, true, false, cond, List, [], ◌∷◌, ◌++◌, map, length, get_or, filter, sym, refl, ap, ◌∙◌, subst, ap₂, arith}
+use Rattle.std.proofs.Common.{◌≡◌, ℕ, zero, suc, ◌+◌, ◌-◌, ◌<◌, ◌≤◌, Bool, true, false, cond, List, [], ◌∷◌, ◌++◌, map, length, get_or, filter, sym, refl, ap, ◌∙◌, ap₂, arith}
 use Rattle.std.specs.List.{range_with_len, flat_map}
 use Rattle.std.proofs.lemmas.List.FromFn.{map-range_with_len_more}
 use Rattle.std.proofs.lemmas.List.{append_assoc, append-nil, length-append, length-map}
 use Rattle.plan.specs.Tables.{cell}
-use Rattle.plan.specs.Laid.{laid_rows, laid_starts, laid_marks, at_positions, listed}
+use Rattle.plan.specs.Laid.{laid_rows, laid_starts, laid_marks, at_positions}
 
 pub at-is : (order : List ℕ) (cells : List Bool) (k i : ℕ) → at_positions order cells (k + 1) (i + 1) ≡ cell cells (get_or order k 0 - 1) (get_or order i 0 - 1)
 at-is order cells k i =

@@ -1,5 +1,5 @@
 -- The links of a sheet: they go both ways, and none joins a label to itself.
-use Rattle.std.proofs.Common.{◌≡◌, ℕ, ◌+◌, ◌-◌, ◌*◌, ◌<◌, ◌≤◌, Bool, true, false, ◌&&◌, ◌||◌, eqb, List, [], ◌∷◌, length, get_or, sym, refl, ap, ◌∙◌, subst, ap₂, inl, inr, arith}
+use Rattle.std.proofs.Common.{◌≡◌, ℕ, ◌+◌, ◌-◌, ◌*◌, ◌<◌, Bool, true, false, ◌&&◌, ◌||◌, eqb, List, [], ◌∷◌, get_or, sym, refl, ap, ◌∙◌, ap₂, inl, inr, arith}
 use Rattle.graph.specs.Theorems.{TwoWay}
 use Rattle.sheet.specs.Patterns.{linked_in, SamePair, LinksJoin}
 use Rattle.sheet.specs.Tables.{Shows}

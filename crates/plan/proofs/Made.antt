@@ -1,5 +1,5 @@
 -- What was inverted and laid out from what the calls saw.
-use Rattle.std.proofs.Common.{◌≡◌, ℕ, ◌+◌, ◌<◌, ◌≤◌, Bool, List, length, get_or, sym, refl, ap, ◌∙◌, subst, ap₂, arith}
+use Rattle.std.proofs.Common.{◌≡◌, ℕ, ◌+◌, ◌<◌, ◌≤◌, Bool, List, length, get_or, sym, ap, ◌∙◌, subst, ap₂, arith}
 use Rattle.graph.specs.Columns.{column}
 use Rattle.graph.specs.Graphs.{start}
 use Rattle.graph.specs.Picking.{Price}

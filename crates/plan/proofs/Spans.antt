@@ -1,5 +1,5 @@
 -- Where a column of a plan stands, and what its rows are.
-use Rattle.std.proofs.Common.{◌≡◌, ℕ, zero, suc, ◌+◌, ◌-◌, ◌<◌, ◌≤◌, cond, List, [], ◌∷◌, length, get_or, take, drop, Some, None, Ok, Err, vec_items, vec_len, Result, sym, refl, ap, ◌∙◌, subst, inl, inr, arith, MatchResult}
+use Rattle.std.proofs.Common.{◌≡◌, ℕ, zero, suc, ◌+◌, ◌-◌, ◌<◌, ◌≤◌, cond, List, [], ◌∷◌, length, get_or, Some, None, Ok, Err, vec_items, vec_len, Result, refl, ap, ◌∙◌, inl, inr, arith, MatchResult}
 use Rattle.std.specs.List.{between}
 use Rattle.std.proofs.lemmas.List.Edits.{length-between, get_or-between}
 use Rattle.std.proofs.lemmas.List.{get_or_read_under}

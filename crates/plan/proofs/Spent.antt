@@ -1,11 +1,11 @@
 -- A column is as long as the degree of its node when the node goes, so the places are counted as nodes go.
-use Rattle.std.proofs.Common.{◌≡◌, ℕ, zero, suc, ◌+◌, ◌-◌, ◌<◌, ◌≤◌, Bool, true, false, cond, not, ◌&&◌, ◌||◌, eqb, ◌≢◌, ◌⊎◌, List, [], ◌∷◌, map, length, filter, sym, refl, ap, ◌∙◌, subst, ap₂, inl, inr, arith}
+use Rattle.std.proofs.Common.{◌≡◌, ℕ, zero, suc, ◌+◌, ◌-◌, ◌<◌, ◌≤◌, Bool, true, false, cond, not, ◌&&◌, eqb, List, [], ◌∷◌, map, length, filter, sym, refl, ap, ◌∙◌, ap₂, inl, inr, arith}
 use Rattle.std.specs.List.{range_with_len}
 use Rattle.std.proofs.lemmas.List.{nil_from_length}
 use Rattle.std.proofs.lemmas.Bool.{eqb-true, eq-eqb, ne_eqb, cases_Bool, and_left}
 use Rattle.graph.specs.Columns.{in_column, column, columns, places}
-use Rattle.graph.specs.Graphs.{Graph, start, degree}
-use Rattle.graph.specs.Picking.{Price, next, remaining, picked}
+use Rattle.graph.specs.Graphs.{start, degree}
+use Rattle.graph.specs.Picking.{Price, remaining, picked}
 use Rattle.plan.specs.Stages.{spent}
 use Rattle.graph.proofs.Orders.{one-if, occurs, without, left_at, lengths, picked-among, apart}
 use Rattle.plan.proofs.Steps.{kept-without}

@@ -1,5 +1,5 @@
 -- The tables before the first elimination.
-use Rattle.std.proofs.Common.{◌≡◌, ℕ, zero, suc, ◌+◌, ◌<◌, ◌≤◌, Bool, true, false, cond, not, ◌&&◌, eqb, List, [], ◌∷◌, map, length, get_or, sym, refl, ap, ◌∙◌, ap₂, inl, inr, arith}
+use Rattle.std.proofs.Common.{◌≡◌, ℕ, zero, suc, ◌+◌, ◌<◌, ◌≤◌, Bool, false, not, ◌&&◌, eqb, List, [], ◌∷◌, map, length, get_or, sym, refl, ap, ◌∙◌, inl, inr, arith}
 use Rattle.std.specs.List.{range_with_len}
 use Rattle.std.proofs.lemmas.List.FromFn.{get_or-map-range_with_len, length-map-range_with_len}
 use Rattle.std.proofs.lemmas.Bool.{cases_eq, eq-eqb, ne_eqb}
@@ -11,7 +11,7 @@ use Rattle.sheet.specs.Patterns.{linked_in, LinksJoin}
 use Rattle.sheet.specs.Tables.{Shows}
 use Rattle.plan.specs.declared.records.NodeRecord.{NodeRecord}
 use Rattle.plan.specs.Stages.{Stands}
-use Rattle.plan.specs.Tables.{cell, count_below, blank, fresh_nodes, gone_in, degree_in, labels, Alone}
+use Rattle.plan.specs.Tables.{cell, count_below, blank, fresh_nodes, degree_in, labels, Alone}
 use Rattle.plan.proofs.Counts.{row_count}
 use Rattle.plan.proofs.Links.{itself, cell-is}
 

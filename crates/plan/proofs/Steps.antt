@@ -1,16 +1,16 @@
 -- One elimination on the planner's tables.
-use Rattle.std.proofs.Common.{◌≡◌, ℕ, zero, suc, ◌+◌, ◌-◌, ◌<◌, ◌≤◌, Bool, true, false, cond, not, ◌&&◌, ◌||◌, eqb, ltb, ◌≢◌, ◌⊎◌, List, [], ◌∷◌, ◌++◌, map, length, get_or, set, filter, sym, refl, ap, ◌∙◌, subst, ap₂, inl, inr, arith, length-set}
+use Rattle.std.proofs.Common.{◌≡◌, ℕ, zero, suc, ◌+◌, ◌-◌, ◌<◌, Bool, true, false, cond, not, ◌&&◌, ◌||◌, eqb, ◌≢◌, List, [], ◌∷◌, ◌++◌, map, length, set, filter, sym, refl, ap, ◌∙◌, subst, ap₂, inl, inr, arith, length-set}
 use Rattle.std.specs.List.{range_with_len}
 use Rattle.std.proofs.lemmas.List.FromFn.{map-range_with_len_more}
 use Rattle.std.proofs.lemmas.List.{get_or-set_same, get_or-set_other}
-use Rattle.std.proofs.lemmas.Bool.{true≢false, cases_Bool, cases_eq, cases_lt, eqb-true, eq-eqb, ne_eqb, lt-ltb, not-true}
+use Rattle.std.proofs.lemmas.Bool.{true≢false, cases_Bool, cases_eq, cases_lt, eqb-true, eq-eqb, ne_eqb, lt-ltb}
 use Rattle.graph.specs.Columns.{member}
 use Rattle.graph.specs.Graphs.{Graph, start, neighbours, degree}
 use Rattle.graph.specs.Picking.{Price, remaining, picked}
 use Rattle.graph.specs.Theorems.{TwoWay}
-use Rattle.graph.proofs.Orders.{occurs, without, left_at, fewer, lengths, picked-among, gone-after, label, member-from, member-none, member-kept}
+use Rattle.graph.proofs.Orders.{occurs, without, left_at, gone-after, label, member-none, member-kept}
 use Rattle.plan.specs.declared.records.NodeRecord.{NodeRecord}
-use Rattle.plan.specs.Stages.{Stands, spent}
+use Rattle.plan.specs.Stages.{Stands}
 use Rattle.plan.specs.Tables.{cell, joined_cell, settled_rows, Has, count_below, blank, gone_in, degree_in, labels, Recounted}
 use Rattle.plan.proofs.Counts.{count_same, row_count}
 use Rattle.plan.proofs.Labels.{labels-same, labels-gone, member-labels}

@@ -1,17 +1,16 @@
 -- What the look-ups answer of the plan that the definitions give.
-use Rattle.std.proofs.Common.{◌≡◌, ℕ, zero, suc, ◌+◌, ◌-◌, ◌<◌, ◌≤◌, Bool, true, cond, eqb, List, [], ◌∷◌, ◌++◌, map, length, get_or, take, drop, filter, sym, refl, ap, ◌∙◌, subst, ap₂, arith}
+use Rattle.std.proofs.Common.{◌≡◌, ℕ, zero, suc, ◌+◌, ◌-◌, ◌<◌, ◌≤◌, Bool, true, eqb, List, [], ◌∷◌, ◌++◌, length, get_or, take, drop, sym, refl, ap, ◌∙◌, ap₂, arith}
 use Rattle.std.specs.List.{range_with_len, flat_map}
 use Rattle.std.proofs.lemmas.List.FromFn.{get_or-map-range_with_len, length-map-range_with_len}
 use Rattle.std.proofs.lemmas.List.{take_at, drop-drop}
 use Rattle.std.proofs.lemmas.Bool.{or_left, eq-eqb}
-use Rattle.graph.specs.Columns.{in_column, label_at, column, lowest, parent, member}
+use Rattle.graph.specs.Columns.{label_at, column, lowest, member}
 use Rattle.graph.specs.Graphs.{Graph, start}
 use Rattle.graph.specs.Picking.{Price, picked, order, place_from}
 use Rattle.graph.proofs.Members.{row-between}
 use Rattle.graph.proofs.Orders.{label, apart}
-use Rattle.plan.specs.Laid.{laid_rows, laid_starts}
-use Rattle.plan.specs.Lookups.{label_in, rows_in, first_label, start_in}
-use Rattle.plan.specs.Planned.{Arrays, arrays_for, place_count}
+use Rattle.plan.specs.Lookups.{rows_in, first_label, start_in}
+use Rattle.plan.specs.Planned.{Arrays, arrays_for}
 use Rattle.plan.specs.Subject.{label_up, Answers}
 use Rattle.plan.proofs.Assembled.{part-is, part_length, laid-places}
 use Rattle.plan.proofs.Finished.{place_at}

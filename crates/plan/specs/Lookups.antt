@@ -1,5 +1,5 @@
 -- What a plan answers, over its arrays. Labels, positions and the rows of columns count from 1, places from 0.
-use Rattle.std.specs.Prelude.{ℕ, ◌+◌, ◌-◌, min, max, Bool, false, cond, ◌&&◌, List, [], ◌∷◌, length, take, drop, Some, None, Ok, Err, Option, Result, ◌==◌, nat_le, nat_lt, slice_index}
+use Rattle.std.specs.Prelude.{ℕ, ◌+◌, ◌-◌, min, max, cond, ◌&&◌, List, [], ◌∷◌, length, take, drop, Some, None, Err, Option, Result, ◌==◌, nat_le, nat_lt, slice_index}
 use Rattle.plan.specs.declared.refusals.Refusal.{Refusal}
 use Rattle.plan.specs.declared.refusals.Refusal.TheVariants.{OutOfRange}
 use Rattle.plan.specs.Planned.{Arrays}

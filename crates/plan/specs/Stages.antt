@@ -1,5 +1,5 @@
 -- What the planner's tables show when k nodes are gone.
-use Rattle.std.specs.Prelude.{◌≡◌, ℕ, zero, suc, ◌+◌, ◌<◌, Bool, true, false, List, map}
+use Rattle.std.specs.Prelude.{◌≡◌, ℕ, zero, suc, ◌+◌, ◌<◌, Bool, false, List, map}
 use Rattle.std.specs.List.{range_with_len}
 use Rattle.graph.specs.Columns.{member}
 use Rattle.graph.specs.Graphs.{Graph, start, neighbours, degree}

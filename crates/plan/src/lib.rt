@@ -1,4 +1,6 @@
 //! Elimination plans: from a sheet and a picking rule to an order, a tree, columns and a store layout.
+#![tactic(auto)]
+
 pub mod given;
 mod laying;
 pub mod lookups;

@@ -1,5 +1,5 @@
 -- A byte as two digits, and bytes from the last one on.
-use Rattle.std.proofs.Common.{◌≡◌, ℕ, ◌/◌, ◌%◌, ◌<◌, false, List, [], ◌∷◌, ◌++◌, length, sym, refl, ap, ◌∙◌, append_assoc, append-nil, arith, rules}
+use Rattle.std.proofs.Common.{◌≡◌, ℕ, ◌/◌, ◌%◌, ◌<◌, false, List, [], ◌∷◌, ◌++◌, length, sym, ap, ◌∙◌, append_assoc, append-nil, arith, rules}
 use mathlib.Core.List.{reverse-append}
 use lib.Utf8.{encode}
 use Rattle.std.specs.Fmt.{digit_glyph}

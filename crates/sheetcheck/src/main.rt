@@ -1,4 +1,6 @@
 //! Reads a site sheet from standard input, and prints what it holds or what is wrong with it.
+#![tactic(auto)]
+
 use anyhow::anyhow;
 use report::accounts::Account;
 use report::refusals::Refusal;

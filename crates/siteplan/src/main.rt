@@ -1,4 +1,6 @@
 //! Reads a site sheet from standard input, and prints the listing of its plan by least degree, or the line of its fault.
+#![tactic(auto)]
+
 ghost use Rattle.std.specs.Prelude.{◌≡◌, IfOk};
 ghost use Rattle.std.specs.Result.{result_map_both};
 ghost use Rattle.plan.specs.Views.{arrays_of};

@@ -1,4 +1,6 @@
 //! The full square: what the box is held to. It has a number at every pair of positions, and knows nothing of columns or places.
+#![tactic(auto)]
+
 ghost use Rattle.std.specs.Prelude.{◌≡◌, Ok};
 ghost use Rattle.arith.specs.Fields.{Ring, Field, residue_ring};
 ghost use Rattle.arith.specs.Operations.{marks, residues, operations_of, solvers_of};

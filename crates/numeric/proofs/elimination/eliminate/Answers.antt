@@ -1,4 +1,4 @@
-use Rattle.std.proofs.Common.{◌≡◌, ◌+◌, ◌-◌, ◌<◌, ◌≤◌, length, get_or, Some, None, Err, sym, refl, ap, ◌∙◌, arith}
+use Rattle.std.proofs.Common.{◌≡◌, ◌+◌, ◌-◌, get_or, Some, None, Err, refl, ap, ◌∙◌, arith}
 use Rattle.arith.specs.Operations.{operations_of}
 use Rattle.plan.specs.Lookups.{size_in}
 use Rattle.plan.specs.Views.{arrays_of}

@@ -1,4 +1,4 @@
-use Rattle.std.proofs.Common.{◌≡◌, ◌+◌, ◌-◌, ◌<◌, ◌≤◌, length, get_or, sym, ap, ◌∙◌, subst, arith}
+use Rattle.std.proofs.Common.{◌≡◌, ◌+◌, ◌-◌, ◌≤◌, length, get_or, sym, ap, ◌∙◌, subst, arith}
 use Rattle.std.proofs.lemmas.List.{length-take, length-drop}
 use Rattle.arith.specs.Operations.{operations_of}
 use Rattle.plan.specs.Lookups.{start_in}
@@ -6,7 +6,7 @@ use Rattle.plan.specs.Views.{arrays_of}
 use Rattle.numeric.specs.Positions.{Position}
 use Rattle.numeric.proofs.Layouts.{row-position}
 use Rattle.numeric.proofs.Parts.{updated-whole}
-use Rattle.numeric.proofs.Ready.{Aimed, aim, column-past, sources-rise, targets-rise, contained, updated-there}
+use Rattle.numeric.proofs.Ready.{aim, column-past, sources-rise, targets-rise, contained, updated-there}
 use Rattle.numeric.proofs.Sweeps.{sweep-none, sweep-more, swept_step}
 use Rattle.numeric.proofs.elimination.eliminate_column.Goals as goal
 

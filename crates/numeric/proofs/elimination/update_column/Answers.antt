@@ -1,7 +1,7 @@
-use Rattle.std.proofs.Common.{◌≡◌, ◌<◌, ◌≤◌, length, get_or, arith}
+use Rattle.std.proofs.Common.{◌≡◌, ◌<◌, arith}
 use Rattle.std.proofs.lemmas.List.{get_or_read}
 use Rattle.arith.specs.Operations.{operations_of}
-use Rattle.numeric.proofs.Walks.{Walked, walk-rest, walk-skip, walk-meet}
+use Rattle.numeric.proofs.Walks.{walk-rest, walk-skip, walk-meet}
 use Rattle.numeric.proofs.elimination.update_column.Goals as goal
 use Rattle.numeric.proofs.elimination.update_column.Goals.{then-next-past+then-rows-at, else-next-past, else-next-past-via-then-next-past+else-rows-at, else-next-past-via-else-next-past}
 

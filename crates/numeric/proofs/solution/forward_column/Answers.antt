@@ -8,7 +8,7 @@ use Rattle.square.specs.Plans.{site_of}
 use Rattle.numeric.specs.Positions.{Position, HasLabel}
 use Rattle.numeric.proofs.Forwards.{forward-none, forward-more, forward-all}
 use Rattle.numeric.proofs.Layouts.{row_at, row-position}
-use Rattle.numeric.proofs.Orders.{has-label, slot-inside, slot_read, slot-set, slot_kept}
+use Rattle.numeric.proofs.Orders.{has-label, slot_read, slot-set, slot_kept}
 use Rattle.numeric.proofs.solution.forward_column.Goals as goal
 
 pub slot-requires : goal.slot-requires

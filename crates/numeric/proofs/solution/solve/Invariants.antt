@@ -1,4 +1,4 @@
-use Rattle.std.proofs.Common.{◌≡◌, ℕ, ◌+◌, ◌-◌, ◌<◌, ◌≤◌, length}
+use Rattle.std.proofs.Common.{◌≡◌, ℕ, ◌-◌, ◌<◌, ◌≤◌, length}
 use Rattle.arith.specs.Operations.{operations_of, solvers_of}
 use Rattle.plan.specs.Lookups.{size_in}
 use Rattle.plan.specs.Views.{arrays_of}

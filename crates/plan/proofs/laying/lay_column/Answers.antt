@@ -1,8 +1,8 @@
-use Rattle.std.proofs.Common.{◌≡◌, ℕ, ◌+◌, ◌-◌, ◌*◌, ◌<◌, ◌≤◌, [], ◌∷◌, ◌++◌, map, length, get_or, vec_items, vec_len, vec_capacity, filter, sym, refl, ap, ◌∙◌, arith}
+use Rattle.std.proofs.Common.{◌+◌, ◌-◌, ◌++◌, map, length, vec_items, vec_capacity, filter, sym, refl, ap, ◌∙◌, arith}
 use Rattle.std.specs.List.{range_with_len}
-use Rattle.std.proofs.lemmas.List.{append-nil, length-map}
+use Rattle.std.proofs.lemmas.List.{length-map}
 use Rattle.plan.specs.Laid.{at_positions, listed}
-use Rattle.plan.proofs.Lays.{at-is, rest-yes, rest-no, moves, room-left, none_left}
+use Rattle.plan.proofs.Lays.{at-is, rest-yes, rest-no, moves, room-left}
 use Rattle.plan.proofs.laying.lay_column.Goals as goal
 
 pub bounds-cells-v : goal.bounds-cells-v

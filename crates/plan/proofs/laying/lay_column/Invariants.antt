@@ -1,4 +1,4 @@
-use Rattle.std.proofs.Common.{◌≡◌, ℕ, ◌+◌, ◌-◌, ◌<◌, ◌++◌, map, length, vec_items, vec_len, vec_capacity, filter}
+use Rattle.std.proofs.Common.{◌≡◌, ◌+◌, ◌-◌, ◌++◌, map, length, vec_items, vec_capacity, filter}
 use Rattle.std.specs.List.{range_with_len}
 use Rattle.plan.specs.Laid.{listed, at_positions}
 use Rattle.plan.proofs.laying.lay_column.Given as goal

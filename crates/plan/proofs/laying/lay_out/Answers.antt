@@ -1,6 +1,6 @@
-use Rattle.std.proofs.Common.{◌≡◌, ℕ, ◌+◌, ◌-◌, ◌*◌, ◌<◌, ◌≤◌, false, [], ◌∷◌, ◌++◌, map, length, get_or, vec_items, vec_len, sym, refl, ap, ◌∙◌, ap₂, arith, rules}
-use Rattle.std.proofs.lemmas.List.{nil_from_length, length-append, length-map}
-use Rattle.plan.specs.Laid.{at_positions, listed, laid_rows, laid_starts, laid_marks}
+use Rattle.std.proofs.Common.{◌≡◌, ◌+◌, false, [], ◌∷◌, ◌++◌, map, length, vec_items, sym, refl, ap, ◌∙◌, ap₂, arith}
+use Rattle.std.proofs.lemmas.List.{nil_from_length, length-append}
+use Rattle.plan.specs.Laid.{at_positions, listed, laid_rows, laid_marks}
 use Rattle.std.proofs.lemmas.List.FromFn.{length-map-range_with_len}
 use Rattle.plan.proofs.Lays.{rows_more, marks-more, starts_more, laid-fit}
 use Rattle.plan.proofs.laying.lay_out.Goals as goal

@@ -1,5 +1,4 @@
-use Rattle.std.proofs.Common.{◌≡◌, ℕ, ◌+◌, ◌-◌, ◌<◌, ◌++◌, map, length, vec_items, vec_len, vec_capacity}
-use Rattle.std.specs.List.{range_with_len}
+use Rattle.std.proofs.Common.{◌≡◌, length, vec_items, vec_capacity}
 use Rattle.plan.specs.Laid.{listed, at_positions, laid_rows, laid_starts, laid_marks}
 use Rattle.plan.proofs.laying.lay_out.Given as goal
 

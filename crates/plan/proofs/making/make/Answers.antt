@@ -1,16 +1,15 @@
-use Rattle.std.proofs.Common.{◌≡◌, ℕ, ◌+◌, ◌<◌, ◌≤◌, cond, leb, List, length, drop, Ok, Err, vec_items, vec_len, Result, sym, refl, ap, ◌∙◌, subst, arith}
+use Rattle.std.proofs.Common.{◌≡◌, ℕ, ◌+◌, ◌<◌, ◌≤◌, cond, List, length, drop, Ok, Err, vec_items, vec_len, sym, refl, ap, ◌∙◌, subst, arith}
 use Rattle.std.proofs.lemmas.List.{take_at}
 use Rattle.std.proofs.lemmas.Result.{err_from_is_err_and}
 use Rattle.std.proofs.lemmas.Bool.{le-leb, lt-leb}
 use Rattle.graph.proofs.Eliminations.{eliminates}
 use Rattle.sheet.specs.Patterns.{Pattern, linked_in}
 use Rattle.sheet.specs.Views.{pattern_of}
-use Rattle.plan.specs.declared.refusals.Refusal.{Refusal}
 use Rattle.plan.specs.declared.refusals.Refusal.TheVariants.{TooManyPlaces}
 use Rattle.plan.specs.Planned.{Arrays, place_count, planned, arrays_for}
 use Rattle.plan.proofs.Links.{two-way, cell-is}
-use Rattle.plan.proofs.Made.{Made, made, seen-length, seen-labels, seen_apart, seen-places}
-use Rattle.plan.proofs.Runs.{Ended, ended}
+use Rattle.plan.proofs.Made.{made, seen-length, seen-labels, seen_apart, seen-places}
+use Rattle.plan.proofs.Runs.{ended}
 use Rattle.plan.proofs.Subjects.{answers}
 use Rattle.plan.proofs.making.make.Goals as goal
 

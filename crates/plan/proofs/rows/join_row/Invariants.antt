@@ -1,4 +1,4 @@
-use Rattle.std.proofs.Common.{◌≡◌, ℕ, ◌<◌, cond, ◌&&◌, ◌||◌, eqb, ltb}
+use Rattle.std.proofs.Common.{cond, ◌&&◌, ◌||◌, eqb, ltb}
 use Rattle.plan.specs.Tables.{cell, Has}
 use Rattle.plan.proofs.rows.join_row.Given as goal
 

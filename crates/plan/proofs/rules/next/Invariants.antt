@@ -1,4 +1,4 @@
-use Rattle.std.proofs.Common.{◌≡◌, ◌+◌, drop, Some, None}
+use Rattle.std.proofs.Common.{◌≡◌, ◌+◌, drop, None}
 use Rattle.plan.specs.Scan.{scan}
 use Rattle.plan.proofs.rules.next.Given as goal
 

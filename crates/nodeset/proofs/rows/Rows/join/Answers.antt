@@ -1,6 +1,6 @@
-use Rattle.std.proofs.Common.{◌≡◌, not, ◌&&◌, ◌||◌, eqb, vec_items, vec_len, sym, ap, ◌∙◌, ap₂, arith}
+use Rattle.std.proofs.Common.{not, ◌&&◌, ◌||◌, eqb, vec_items, vec_len, ap, ◌∙◌, ap₂, arith}
 use Rattle.std.proofs.lemmas.List.{get_or_read_under}
-use Rattle.nodeset.specs.Rows.{no_nodes, in_rows}
+use Rattle.nodeset.specs.Rows.{no_nodes}
 use Rattle.nodeset.specs.Sets.{has}
 use Rattle.nodeset.proofs.Rowed.{row-joined}
 use Rattle.nodeset.proofs.rows.Rows.join.Goals as goal

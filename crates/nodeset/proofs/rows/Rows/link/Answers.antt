@@ -1,4 +1,4 @@
-use Rattle.std.proofs.Common.{◌≡◌, ◌&&◌, ◌||◌, eqb, ltb, set, vec_items, vec_len, sym, ap, ◌∙◌, arith, length-set}
+use Rattle.std.proofs.Common.{◌&&◌, ◌||◌, eqb, ltb, set, vec_items, vec_len, sym, ap, ◌∙◌, arith, length-set}
 use Rattle.std.proofs.lemmas.List.{get_or_read_under}
 use Rattle.nodeset.specs.Rows.{no_nodes}
 use Rattle.nodeset.specs.Sets.{has}

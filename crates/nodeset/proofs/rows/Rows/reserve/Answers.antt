@@ -1,4 +1,4 @@
-use Rattle.std.proofs.Common.{vec_items, sym}
+use Rattle.std.proofs.Common.{vec_items}
 use Rattle.nodeset.proofs.Rowed.{empty-rows}
 use Rattle.nodeset.proofs.rows.Rows.reserve.Goals as goal
 

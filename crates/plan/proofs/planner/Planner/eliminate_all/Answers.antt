@@ -1,4 +1,4 @@
-use Rattle.std.proofs.Common.{◌≡◌, sym, refl, ◌∙◌, arith}
+use Rattle.std.proofs.Common.{refl, ◌∙◌, arith}
 use Rattle.plan.proofs.Runs.{advances, too_many, few-enough}
 use Rattle.plan.proofs.planner.Planner.eliminate_all.Goals as goal
 

@@ -1,9 +1,9 @@
-use Rattle.std.proofs.Common.{◌≡◌, ℕ, ◌+◌, ◌-◌, true, List, [], ◌∷◌, ◌++◌, length, vec_items, vec_len, sym, refl, ap, ◌∙◌, subst, ap₂, arith}
+use Rattle.std.proofs.Common.{◌≡◌, ℕ, ◌+◌, ◌-◌, List, [], ◌∷◌, ◌++◌, length, vec_items, vec_len, sym, refl, ap, ◌∙◌, subst, arith}
 use Rattle.std.proofs.lemmas.List.{get_or_read_under}
 use Rattle.plan.specs.declared.records.NodeRecord.{NodeRecord}
 use Rattle.plan.specs.Stages.{Stands}
 use Rattle.plan.specs.Tables.{blank, degree_in}
-use Rattle.plan.proofs.Picks.{Live, picks-live, picks, picks-as}
+use Rattle.plan.proofs.Picks.{picks-live, picks, picks-as}
 use Rattle.plan.proofs.Steps.{stands-more}
 use Rattle.plan.proofs.planner.Planner.eliminate_next.Goals as goal
 

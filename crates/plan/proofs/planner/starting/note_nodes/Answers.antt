@@ -1,7 +1,6 @@
-use Rattle.std.proofs.Common.{false, [], ◌∷◌, ◌++◌, vec_items, sym, refl, ap, ◌∙◌, ap₂, arith}
+use Rattle.std.proofs.Common.{false, [], ◌∷◌, ◌++◌, vec_items, sym, refl, ◌∙◌, ap₂, arith}
 use Rattle.std.proofs.lemmas.List.FromFn.{map-range_with_len_more}
 use Rattle.std.proofs.lemmas.List.{nil_from_length}
-use Rattle.plan.specs.declared.records.NodeRecord.{NodeRecord}
 use Rattle.plan.specs.Tables.{cell, count_below}
 use Rattle.plan.proofs.planner.starting.note_nodes.Goals as goal
 

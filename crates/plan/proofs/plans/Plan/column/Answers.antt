@@ -1,6 +1,6 @@
-use Rattle.std.proofs.Common.{◌≡◌, ℕ, ◌+◌, ◌-◌, ◌<◌, ◌≤◌, List, length, get_or, take, drop, vec_items, vec_len, sym, ap, ◌∙◌, subst, ap₂, arith, rules}
+use Rattle.std.proofs.Common.{◌≡◌, ℕ, ◌+◌, ◌-◌, ◌<◌, ◌≤◌, List, length, get_or, vec_items, vec_len, sym, ap, ◌∙◌, subst, arith, rules}
 use Rattle.std.specs.List.{between}
-use Rattle.plan.proofs.Spans.{Span, span-read, part-above, part-rises}
+use Rattle.plan.proofs.Spans.{span-read, part-above, part-rises}
 use Rattle.plan.proofs.plans.Plan.column.Goals as goal
 
 pub slice_bounds-result-count : goal.slice_bounds-result-count

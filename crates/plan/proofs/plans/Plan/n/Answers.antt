@@ -1,4 +1,4 @@
-use Rattle.std.proofs.Common.{◌≡◌, ◌+◌, ◌<◌, ◌≤◌, length, vec_items, vec_len, sym, ap, ◌∙◌, subst, arith}
+use Rattle.std.proofs.Common.{◌≡◌, ◌+◌, length, vec_items, vec_len, sym, ap, ◌∙◌, subst, arith}
 use Rattle.plan.specs.Layout.{Undoes, Starts, Diagonals, Rises, Within, Closed}
 use Rattle.plan.proofs.plans.Plan.n.Goals as goal
 

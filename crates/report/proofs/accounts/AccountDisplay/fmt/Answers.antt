@@ -1,4 +1,3 @@
-use Rattle.std.proofs.Common.{◌≡◌}
 use Rattle.std.proofs.Output.{has_written_of_eq}
 use Rattle.report.proofs.accounts.AccountDisplay.fmt.Goals as goal
 
