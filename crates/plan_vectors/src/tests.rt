@@ -74,7 +74,7 @@ fn look_ups_of_the_ring(rt: HostRuntime) -> Result<(), Fail> {
     assert_eq!(rt; plan.node(2)?, (2, 3));
     assert_eq!(rt; plan.node(4)?, (4, 0));
     assert_eq!(rt; plan.label_at(3)?, 3);
-    assert_eq!(rt; plan.rows_at(2)?, &[3, 4]);
+    assert_eq!(rt; plan.rows_at(2)?, [3, 4].as_slice());
     assert_eq!(rt; plan.place(4, 2)?, Some(5));
     assert_eq!(rt; plan.place(3, 1)?, None);
     assert!(rt; !plan.is_link(5));
