@@ -2,8 +2,7 @@
 .PHONY: run test
 
 run:
-	rt check siteplan
-	target/bin/siteplan < examples/mill.sheet
+	cd crates/siteplan && rt run < ../../examples/mill.sheet
 
 test:
 	@bash .ci/gate

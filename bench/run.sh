@@ -8,9 +8,9 @@ set -euo pipefail
 
 source=$(realpath "$(dirname "$0")")
 [ -f /usr/include/suitesparse/amd.h ] || { apt-get update && apt-get install -y libsuitesparse-dev; }
-(cd "$source/.." && rt staticlib bench_plan >/dev/null)
-library=$source/../target/staticlib/libbench_plan.a
-runtime=$(dirname "$(dirname "$(rt doc)")")/lib/librattle_c.a
+(cd "$source/../crates/bench_plan" && rt lib >/dev/null)
+library=$source/../crates/bench_plan/out/libbench_plan.a
+runtime=$(dirname "$(rt doc)")/c/liblibc_c.a
 work=$(mktemp -d)
 trap 'rm -r "$work"' EXIT
 cd "$work"

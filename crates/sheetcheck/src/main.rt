@@ -1,13 +1,13 @@
 //! Reads a site sheet from standard input, and prints what it holds or what is wrong with it.
 #![tactic(auto)]
 
-use anyhow::anyhow;
 use report::accounts::Account;
 use report::refusals::Refusal;
 use sheet::reading::read;
 use sheet::room::Room;
 use std::io;
 use std::io::Read;
+use std::process::ExitCode;
 
 /// The longest sheet and one word more: no later byte changes what is read.
 const MOST_BYTES: u64 = 18_444;
@@ -36,10 +36,11 @@ fn check(rt: &HostRuntime) -> anyhow::Result<bool> {
     }
 }
 
-fn main(rt: HostRuntime) -> anyhow::Result<()> {
+// A refusal is told on standard output: it ends with status 1 and no word on standard error.
+fn main(rt: HostRuntime) -> anyhow::Result<ExitCode> {
     if check(&rt)? {
-        Ok(())
+        Ok(ExitCode::SUCCESS)
     } else {
-        Err(anyhow!("the input is no sheet"))
+        Ok(ExitCode::FAILURE)
     }
 }

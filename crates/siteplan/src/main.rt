@@ -7,7 +7,6 @@ ghost use Rattle.plan.specs.Views.{arrays_of};
 ghost use Rattle.listing.specs.Texts.{listing_text};
 ghost use Rattle.siteplan.specs.Sites.{site_plan};
 
-use anyhow::anyhow;
 use listing::faults::SiteFault;
 use listing::listings::{listing, listing_length};
 use plan::making::make;
@@ -17,6 +16,7 @@ use sheet::reading::read;
 use std::alloc::{AllocError, Global};
 use std::io;
 use std::io::{Read, Write};
+use std::process::ExitCode;
 
 /// The longest sheet and one word more: no later byte changes what is read.
 const MOST_BYTES: u64 = 18_444;
@@ -69,10 +69,11 @@ fn run(rt: &HostRuntime) -> anyhow::Result<bool> {
     }
 }
 
-fn main(rt: HostRuntime) -> anyhow::Result<()> {
+// A refusal is told on standard output: it ends with status 1 and no word on standard error.
+fn main(rt: HostRuntime) -> anyhow::Result<ExitCode> {
     if run(&rt)? {
-        Ok(())
+        Ok(ExitCode::SUCCESS)
     } else {
-        Err(anyhow!("the input has no plan"))
+        Ok(ExitCode::FAILURE)
     }
 }
