@@ -7,8 +7,8 @@ use Rattle.arith.specs.Fields.{Field, residue_ring}
 use Rattle.arith.specs.Operations.{residues}
 use Rattle.arith.specs.Residues.{residue, is_zero, difference, product, quotient, judged_residue}
 use Rattle.arith.specs.Nothing.{positive}
-use Rattle.arith.specs.QuotientsLemmas.{is-quotient, gives_back, by-inverse}
-use Rattle.arith.specs.Remainders.{rem, rem-times, times-rem}
+use Rattle.arith.specs.QuotientsLemmas.{is_quotient, gives_back, by_inverse}
+use Rattle.arith.specs.Remainders.{rem, rem_times, times_rem}
 use Rattle.arith.specs.Same.{same}
 
 -- what serves as pivot is not 0
@@ -21,10 +21,10 @@ by_one : (v d : Residue) → judged_residue d ≡ 0 → quotient v d ≡ product
 by_one v d e =
     let pos = positive d (serving d e) in
     let inverse = quotient (residue 1) d in
-    sym (is-quotient v d (product v inverse) pos (by-inverse v.value d.value inverse.value v.below (gives_back (residue 1) d pos)))
+    sym (is_quotient v d (product v inverse) pos (by_inverse v.value d.value inverse.value v.below (gives_back (residue 1) d pos)))
 
-pub residue-field : Field residues residue_ring
-residue-field = record {
+pub residue_field : Field residues residue_ring
+residue_field = record {
   plus_commutes = λ a b. same _ _ (ap rem (add_comm a.value b.value));
   plus_associates = λ a b c. same _ _
       (mod-add-mod (a.value + b.value) 65521 c.value ∙ ap rem (add_assoc a.value b.value c.value)
@@ -33,12 +33,12 @@ residue-field = record {
   minus_plus = λ a b. same _ a (omega (arith, a.below, b.below));
   times_commutes = λ a b. same _ _ (ap rem (mul_comm a.value b.value));
   times_associates = λ a b c. same _ _
-      (rem-times (a.value * b.value) c.value ∙ ap rem (mul_assoc a.value b.value c.value)
-      ∙ sym (times-rem a.value (b.value * c.value)));
+      (rem_times (a.value * b.value) c.value ∙ ap rem (mul_assoc a.value b.value c.value)
+      ∙ sym (times_rem a.value (b.value * c.value)));
   times_one = λ a. same _ a (ap rem (mul-one a.value) ∙ mod-eq_of_lt a.below);
   times_nothing = λ a. same _ _ (ap rem (mul-zero a.value));
   times_plus = λ a b c. same _ _
-      (times-rem a.value (b.value + c.value) ∙ ap rem (mul-add a.value b.value c.value)
+      (times_rem a.value (b.value + c.value) ∙ ap rem (mul-add a.value b.value c.value)
       ∙ add-mod (a.value * b.value) (a.value * c.value) 65521);
   one_apart = λ e. let z : ◌≡◌ {A = ℕ} 1 0 = ap (λ (r : Residue). r.value) e in omega arith;
   pivots = λ d apart. ⊎_elim

@@ -4,7 +4,7 @@ use Rattle.std.proofs.Common.{sym, ap, ◌∙◌, ⊎_elim, mul_comm, add-mul, m
 use Rattle.std.proofs.Math.Nat.{div-add-mod}
 use Rattle.std.proofs.lemmas.Bool.{cases_Bool}
 use Rattle.arith.specs.Primality.{prime}
-use Rattle.arith.specs.Remainders.{rem, rem-times, times-rem}
+use Rattle.arith.specs.Remainders.{rem, rem_times, times_rem}
 
 pub leaves : (m : ℕ) → 1 < m → m < 65521 → 0 < 65521 % m
 leaves m above under = ⊎_elim (λ e. absurd (prime.1 m above under e)) (λ h. h) (eq-zero-or-pos (65521 % m))
@@ -25,7 +25,7 @@ turned m above under =
 pub next : (s d m : ℕ) → 1 < m → m < 65521 → rem (s * d) ≡ m → rem (rem ((65521 - 65521 / m) * s) * d) ≡ 65521 % m
 next s d m above under e =
     let c = 65521 - 65521 / m in
-    rem-times (c * s) d ∙ ap rem (mul_assoc c s d) ∙ sym (times-rem c (s * d)) ∙ ap (λ n. rem (c * n)) e ∙ turned m above under
+    rem_times (c * s) d ∙ ap rem (mul_assoc c s d) ∙ sym (times_rem c (s * d)) ∙ ap (λ n. rem (c * n)) e ∙ turned m above under
 
 -- a number that gives 1 when it is multiplied by m
 pub inverted : (bound m : ℕ) → m ≤ bound → 0 < m → m < 65521 → (s : ℕ) × (rem (s * m) ≡ 1)
@@ -37,6 +37,6 @@ inverted (suc bound) m within pos under =
     let less : 65521 % m < m = mod-lt 65521 pos in
     let c = 65521 - 65521 / m in
     let rest = inverted bound (65521 % m) (omega arith) (leaves m above under) (omega arith) in
-    (rest.0 * c, ap rem (mul_assoc rest.0 c m) ∙ sym (times-rem rest.0 (c * m)) ∙ ap (λ n. rem (rest.0 * n)) (turned m above under) ∙ rest.1))
+    (rest.0 * c, ap rem (mul_assoc rest.0 c m) ∙ sym (times_rem rest.0 (c * m)) ∙ ap (λ n. rem (rest.0 * n)) (turned m above under) ∙ rest.1))
     (λ t. let low = ltb-false 1 m t in (1, let one = one-mul m in omega arith))
     (cases_Bool (nat_lt 1 m))

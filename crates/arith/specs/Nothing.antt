@@ -4,7 +4,7 @@ use Rattle.std.proofs.Common.{ap, ◌∙◌, sym, mul-zero, zero-mul, arith}
 use Rattle.std.proofs.lemmas.Bool.{eqb-false}
 use Rattle.arith.specs.declared.residues.Residue.{Residue}
 use Rattle.arith.specs.Residues.{residue, is_zero, difference, product, quotient, updated_residue, taken_residue}
-use Rattle.arith.specs.QuotientsLemmas.{is-quotient}
+use Rattle.arith.specs.QuotientsLemmas.{is_quotient}
 use Rattle.arith.specs.Remainders.{rem}
 use Rattle.arith.specs.Same.{same}
 
@@ -16,17 +16,17 @@ either : (b : Bool) (x y : Residue) → (b ≡ false → y ≡ x) → cond b x y
 either true x y e = refl
 either false x y e = e refl
 
-less-nothing : (a n : Residue) → n.value ≡ 0 → difference a n ≡ a
-less-nothing a n e = same _ a (omega (arith, a.below))
+less_nothing : (a n : Residue) → n.value ≡ 0 → difference a n ≡ a
+less_nothing a n e = same _ a (omega (arith, a.below))
 
 pub row : (a d v : Residue) → updated_residue a (residue 0) d v ≡ a
-row a d v = either (is_zero d) a _ (λ t. less-nothing a (product (quotient v d) (residue 0)) (ap rem (mul-zero (quotient v d).value)))
+row a d v = either (is_zero d) a _ (λ t. less_nothing a (product (quotient v d) (residue 0)) (ap rem (mul-zero (quotient v d).value)))
 
 pub column : (a u d : Residue) → updated_residue a u d (residue 0) ≡ a
 column a u d =
     either (is_zero d) a _ (λ t.
-    let none = is-quotient (residue 0) d (residue 0) (positive d t) (ap rem (zero-mul d.value)) in
-    ap (λ q. difference a (product q u)) (sym none) ∙ less-nothing a (product (residue 0) u) (ap rem (zero-mul u.value)))
+    let none = is_quotient (residue 0) d (residue 0) (positive d t) (ap rem (zero-mul d.value)) in
+    ap (λ q. difference a (product q u)) (sym none) ∙ less_nothing a (product (residue 0) u) (ap rem (zero-mul u.value)))
 
 pub calm : (b y : Residue) → taken_residue b (residue 0) y ≡ b
-calm b y = less-nothing b (product (residue 0) y) (ap rem (zero-mul y.value))
+calm b y = less_nothing b (product (residue 0) y) (ap rem (zero-mul y.value))

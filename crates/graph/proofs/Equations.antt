@@ -5,9 +5,9 @@ use Rattle.graph.specs.Graphs.{Graph, start}
 use Rattle.graph.specs.Picking.{Price, remaining, picked}
 use Rattle.graph.specs.Theorems.{ColumnEquation}
 
-or-none : (x : Bool) → x ≡ (x || false)
-or-none true = refl
-or-none false = refl
+or_none : (x : Bool) → x ≡ (x || false)
+or_none true = refl
+or_none false = refl
 
 or_assoc : (x y z : Bool) → ((x || y) || z) ≡ (x || (y || z))
 or_assoc true y z = refl
@@ -19,9 +19,9 @@ module _ (price : Price) (g : Graph) where
   made a b k = (remaining price g k).linked (picked price g k) a && (remaining price g k).linked (picked price g k) b
 
   -- the links when j are gone: those of the sheet, and those that an elimination made
-  pub linked-after : (j a b : ℕ) → (remaining price g j).linked a b ≡ (g.linked a b || any_below (made a b) j)
-  linked-after zero a b = or-none (g.linked a b)
-  linked-after (suc j) a b = ap (λ x. x || made a b j) (linked-after j a b) ∙ or_assoc (g.linked a b) (any_below (made a b) j) (made a b j)
+  pub linked_after : (j a b : ℕ) → (remaining price g j).linked a b ≡ (g.linked a b || any_below (made a b) j)
+  linked_after zero a b = or_none (g.linked a b)
+  linked_after (suc j) a b = ap (λ x. x || made a b j) (linked_after j a b) ∙ or_assoc (g.linked a b) (any_below (made a b) j) (made a b j)
 
-pub column-equation : (price : Price) (n : ℕ) (linked : ℕ → ℕ → Bool) → ColumnEquation price n linked
-column-equation price n linked j i = let g = start n linked in linked-after price g j (picked price g j) (picked price g i)
+pub column_equation : (price : Price) (n : ℕ) (linked : ℕ → ℕ → Bool) → ColumnEquation price n linked
+column_equation price n linked j i = let g = start n linked in linked_after price g j (picked price g j) (picked price g i)

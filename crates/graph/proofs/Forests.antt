@@ -6,8 +6,8 @@ use Rattle.graph.specs.Columns.{in_column, column, lowest, parent, ancestor, mem
 use Rattle.graph.specs.Graphs.{start}
 use Rattle.graph.specs.Picking.{Price}
 use Rattle.graph.specs.Theorems.{MakesForest}
-use Rattle.graph.proofs.Equations.{column-equation}
-use Rattle.graph.proofs.Members.{member-column, row-between}
+use Rattle.graph.proofs.Equations.{column_equation}
+use Rattle.graph.proofs.Members.{member_column, row_between}
 
 any_here : (test : ℕ → Bool) (m k : ℕ) → k < m → test k ≡ true → any_below test m ≡ true
 any_here test zero k h e = absurd (omega arith)
@@ -23,9 +23,9 @@ record Lowest (test : ℕ → Bool) (a i low : ℕ) : Type 0 where
   least : low ≤ i
   kept : test low ≡ true
 
-lowest-kept : (test : ℕ → Bool) (a m i : ℕ) → a ≤ i → i < a + m → test i ≡ true → Lowest test a i (lowest (filter test (range_with_len a m)))
-lowest-kept test a zero i l u e = absurd (omega arith)
-lowest-kept test a (suc m) i l u e = at (λ k. lowest-kept test (a + 1) m i k (omega arith) e) (test a) refl where
+lowest_kept : (test : ℕ → Bool) (a m i : ℕ) → a ≤ i → i < a + m → test i ≡ true → Lowest test a i (lowest (filter test (range_with_len a m)))
+lowest_kept test a zero i l u e = absurd (omega arith)
+lowest_kept test a (suc m) i l u e = at (λ k. lowest_kept test (a + 1) m i k (omega arith) e) (test a) refl where
   at : (a + 1 ≤ i → Lowest test (a + 1) i (lowest (filter test (range_with_len (a + 1) m)))) → (b : Bool) → test a ≡ b → Lowest test a i (lowest (cond b (a ∷ filter test (range_with_len (a + 1) m)) (filter test (range_with_len (a + 1) m))))
   at later true t = record { from = omega arith; least = l; kept = t }
   at later false t =
@@ -33,9 +33,9 @@ lowest-kept test a (suc m) i l u e = at (λ k. lowest-kept test (a + 1) m i k (o
       let r = later (omega (arith, apart)) in
       record { from = omega (arith, r.from); least = r.least; kept = r.kept }
 
-lowest-member : (xs : List ℕ) → (lowest xs ≡ 0) ⊎ (member (lowest xs) xs ≡ true)
-lowest-member [] = inl refl
-lowest-member (x ∷ xs) = inr (or_left (eqb x x) (member x xs) (eq-eqb x x refl))
+lowest_member : (xs : List ℕ) → (lowest xs ≡ 0) ⊎ (member (lowest xs) xs ≡ true)
+lowest_member [] = inl refl
+lowest_member (x ∷ xs) = inr (or_left (eqb x x) (member x xs) (eq-eqb x x refl))
 
 module _ (price : Price) (n : ℕ) (linked : ℕ → ℕ → Bool) where
   abbrev rows : ℕ → List ℕ
@@ -45,27 +45,27 @@ module _ (price : Price) (n : ℕ) (linked : ℕ → ℕ → Bool) where
   up = parent price (start n linked) n
 
   above : (k : ℕ) → (up k ≡ 0) ⊎ (k < up k)
-  above k = ⊎_elim inl (λ e. inr (row-between price n linked k (up k) e).0) (lowest-member (rows k))
+  above k = ⊎_elim inl (λ e. inr (row_between price n linked k (up k) e).0) (lowest_member (rows k))
 
   -- of two rows of one column, the higher is in the column of the lower
-  rows-joined : (k p i : ℕ) → 1 ≤ k → k < p → p < i → i ≤ n → in_column price (start n linked) (k - 1) (p - 1) ≡ true → member i (rows k) ≡ true → member i (rows p) ≡ true
-  rows-joined k p i l u v h e f =
+  rows_joined : (k p i : ℕ) → 1 ≤ k → k < p → p < i → i ≤ n → in_column price (start n linked) (k - 1) (p - 1) ≡ true → member i (rows k) ≡ true → member i (rows p) ≡ true
+  rows_joined k p i l u v h e f =
       let both : ℕ → Bool = λ m. in_column price (start n linked) m (p - 1) && in_column price (start n linked) m (i - 1) in
-      let here = and_from _ _ e (sym (member-column price n linked k i l (omega arith) h) ∙ f) in
-      member-column price n linked p i (omega arith) v h ∙ column-equation price n linked (p - 1) (i - 1) ∙ or_right _ _ (any_here both (p - 1) (k - 1) (omega arith) here)
+      let here = and_from _ _ e (sym (member_column price n linked k i l (omega arith) h) ∙ f) in
+      member_column price n linked p i (omega arith) v h ∙ column_equation price n linked (p - 1) (i - 1) ∙ or_right _ _ (any_here both (p - 1) (k - 1) (omega arith) here)
 
   climbs : (d k i : ℕ) → 1 ≤ k → i - k ≤ d → member i (rows k) ≡ true → (m : ℕ) × (ancestor price (start n linked) n m k ≡ i)
-  climbs zero k i l b e = let r = row-between price n linked k i e in absurd (omega (arith, r.0))
+  climbs zero k i l b e = let r = row_between price n linked k i e in absurd (omega (arith, r.0))
   climbs (suc d) k i l b e =
-      let r = row-between price n linked k i e in
+      let r = row_between price n linked k i e in
       let test : ℕ → Bool = λ j. in_column price (start n linked) (k - 1) (j - 1) in
-      let low = lowest-kept test (k + 1) (n - k) i (omega (arith, r.0)) (omega (arith, r.0, r.1)) (sym (member-column price n linked k i l r.0 r.1) ∙ e) in
+      let low = lowest_kept test (k + 1) (n - k) i (omega (arith, r.0)) (omega (arith, r.0, r.1)) (sym (member_column price n linked k i l r.0 r.1) ∙ e) in
       ⊎_elim
       (λ (q : up k < i).
-      let c = climbs d (up k) i (omega (arith, low.from)) (omega (arith, low.from, r.0)) (rows-joined k (up k) i l (omega (arith, low.from)) q r.1 low.kept e) in
+      let c = climbs d (up k) i (omega (arith, low.from)) (omega (arith, low.from, r.0)) (rows_joined k (up k) i l (omega (arith, low.from)) q r.1 low.kept e) in
       (suc c.0, c.1))
       (λ (q : i ≤ up k). let s : up k ≡ i = omega (arith, low.least) in (1, s))
       (cases_lt (up k) i)
 
-pub makes-forest : (price : Price) (n : ℕ) (linked : ℕ → ℕ → Bool) → MakesForest price n linked
-makes-forest price n linked = record { above = above price n linked; ancestors = λ k i l e. climbs price n linked (i - k) k i l (omega arith) e }
+pub makes_forest : (price : Price) (n : ℕ) (linked : ℕ → ℕ → Bool) → MakesForest price n linked
+makes_forest price n linked = record { above = above price n linked; ancestors = λ k i l e. climbs price n linked (i - k) k i l (omega arith) e }

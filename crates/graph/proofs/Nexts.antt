@@ -6,7 +6,7 @@ use Rattle.graph.specs.Columns.{member}
 use Rattle.graph.specs.Graphs.{start, degree}
 use Rattle.graph.specs.Picking.{Price, least, first_of, next, remaining, picked}
 use Rattle.graph.specs.Theorems.{IsNext, PicksNext}
-use Rattle.graph.proofs.Orders.{left_at, lengths, first-among, member-from}
+use Rattle.graph.proofs.Orders.{left_at, lengths, first_among, member_from}
 
 -- xs ascends, from above b on
 abbrev Above : ℕ → List ℕ → Type 0
@@ -17,9 +17,9 @@ above_lower : (a b : ℕ) (xs : List ℕ) → a ≤ b → Above b xs → Above a
 above_lower a b [] l h = tt
 above_lower a b (x ∷ xs) l h = (omega (arith, h.0), h.1)
 
-above-counting : (b a n : ℕ) → b < a → Above b (range_with_len a n)
-above-counting b a zero l = tt
-above-counting b a (suc n) l = (l, above-counting a (a + 1) n (omega arith))
+above_counting : (b a n : ℕ) → b < a → Above b (range_with_len a n)
+above_counting b a zero l = tt
+above_counting b a (suc n) l = (l, above_counting a (a + 1) n (omega arith))
 
 above_kept : (test : ℕ → Bool) (b : ℕ) (xs : List ℕ) → Above b xs → Above b (filter test xs)
 above_kept test b [] h = tt
@@ -32,28 +32,28 @@ above_kept test b (x ∷ xs) h = at (test x) (above_kept test x xs h.1) where
 abbrev Precedes : (ℕ → ℕ) → ℕ → ℕ → Type 0
 Precedes p v w = (p v < p w) ⊎ ((p v ≡ p w) × (v ≤ w))
 
-precedes-over : (p : ℕ → ℕ) (v x w : ℕ) → Precedes p v x → p x < p w → Precedes p v w
-precedes-over p v x w (inl h) l = inl (omega arith)
-precedes-over p v x w (inr h) l = inl (omega (arith, h.0))
+precedes_over : (p : ℕ → ℕ) (v x w : ℕ) → Precedes p v x → p x < p w → Precedes p v w
+precedes_over p v x w (inl h) l = inl (omega arith)
+precedes_over p v x w (inr h) l = inl (omega (arith, h.0))
 
-precedes-on : (p : ℕ → ℕ) (v b x : ℕ) → Precedes p v b → p b ≤ p x → b < x → Precedes p v x
-precedes-on p v b x (inl h) l u = inl (omega arith)
-precedes-on p v b x (inr h) l u = at (Rattle.std.proofs.lemmas.Bool.cases_lt (p v) (p x)) where
+precedes_on : (p : ℕ → ℕ) (v b x : ℕ) → Precedes p v b → p b ≤ p x → b < x → Precedes p v x
+precedes_on p v b x (inl h) l u = inl (omega arith)
+precedes_on p v b x (inr h) l u = at (Rattle.std.proofs.lemmas.Bool.cases_lt (p v) (p x)) where
   at : (p v < p x) ⊎ (p x ≤ p v) → Precedes p v x
   at (inl q) = inl q
   at (inr q) = inr (omega (arith, h.0), omega (arith, h.1))
 
-least-precedes : (p : ℕ → ℕ) (b : ℕ) (xs : List ℕ) → Above b xs → (w : ℕ) → member w (b ∷ xs) ≡ true → Precedes p (least p b xs) w
-least-precedes p b [] h w e =
+least_precedes : (p : ℕ → ℕ) (b : ℕ) (xs : List ℕ) → Above b xs → (w : ℕ) → member w (b ∷ xs) ≡ true → Precedes p (least p b xs) w
+least_precedes p b [] h w e =
     ⊎_elim
     (λ q. let s = eqb-true b w q in inr (ap p s, omega arith))
     (λ q. absurd (Rattle.std.proofs.lemmas.Bool.false≢true q))
     (or_cases (eqb b w) false e)
-least-precedes p b (x ∷ xs) h w e = at (ltb (p x) (p b)) refl (least-precedes p x xs h.1) (least-precedes p b xs (above_lower b x xs (omega (arith, h.0)) h.1)) where
+least_precedes p b (x ∷ xs) h w e = at (ltb (p x) (p b)) refl (least_precedes p x xs h.1) (least_precedes p b xs (above_lower b x xs (omega (arith, h.0)) h.1)) where
   at : (t : Bool) → ltb (p x) (p b) ≡ t → ((w : ℕ) → member w (x ∷ xs) ≡ true → Precedes p (least p x xs) w) → ((w : ℕ) → member w (b ∷ xs) ≡ true → Precedes p (least p b xs) w) → Precedes p (least p (cond t x b) xs) w
   at true t first second =
       ⊎_elim
-      (λ q. subst (Precedes p (least p x xs)) (eqb-true b w q) (precedes-over p (least p x xs) x b (first x (or_left (eqb x x) (member x xs) (eq-eqb x x refl))) (ltb-true (p x) (p b) t)))
+      (λ q. subst (Precedes p (least p x xs)) (eqb-true b w q) (precedes_over p (least p x xs) x b (first x (or_left (eqb x x) (member x xs) (eq-eqb x x refl))) (ltb-true (p x) (p b) t)))
       (λ q. first w q)
       (or_cases (eqb b w) (member w (x ∷ xs)) e)
   at false t first second =
@@ -62,14 +62,14 @@ least-precedes p b (x ∷ xs) h w e = at (ltb (p x) (p b)) refl (least-precedes 
       (λ q. subst (Precedes p (least p b xs)) (eqb-true b w q) here)
       (λ q.
       ⊎_elim
-      (λ r. subst (Precedes p (least p b xs)) (eqb-true x w r) (precedes-on p (least p b xs) b x here (ltb-false (p x) (p b) t) h.0))
+      (λ r. subst (Precedes p (least p b xs)) (eqb-true x w r) (precedes_on p (least p b xs) b x here (ltb-false (p x) (p b) t) h.0))
       (λ r. second w (or_right (eqb b w) (member w xs) r))
       (or_cases (eqb x w) (member w xs) q))
       (or_cases (eqb b w) (member w (x ∷ xs)) e)
 
-first-precedes : (p : ℕ → ℕ) (xs : List ℕ) → Above 0 xs → (w : ℕ) → member w xs ≡ true → Precedes p (first_of p xs) w
-first-precedes p [] h w e = absurd (Rattle.std.proofs.lemmas.Bool.false≢true e)
-first-precedes p (x ∷ xs) h w e = least-precedes p x xs h.1 w e
+first_precedes : (p : ℕ → ℕ) (xs : List ℕ) → Above 0 xs → (w : ℕ) → member w xs ≡ true → Precedes p (first_of p xs) w
+first_precedes p [] h w e = absurd (Rattle.std.proofs.lemmas.Bool.false≢true e)
+first_precedes p (x ∷ xs) h w e = least_precedes p x xs h.1 w e
 
 same_next : (p : ℕ → ℕ) (v w : ℕ) → Precedes p v w → Precedes p w v → v ≡ w
 same_next p v w (inl h) (inl k) = omega arith
@@ -78,24 +78,24 @@ same_next p v w (inr h) (inl k) = omega (arith, h.0)
 same_next p v w (inr h) (inr k) = omega (arith, h.1, k.1)
 
 module _ (price : Price) (n : ℕ) (linked : ℕ → ℕ → Bool) where
-  above-left : (k : ℕ) → Above 0 (left_at price n linked k)
-  above-left zero = above-counting 0 1 n (omega arith)
-  above-left (suc k) = above_kept (λ a. not (eqb a (picked price (start n linked) k))) 0 (left_at price n linked k) (above-left k)
+  above_left : (k : ℕ) → Above 0 (left_at price n linked k)
+  above_left zero = above_counting 0 1 n (omega arith)
+  above_left (suc k) = above_kept (λ a. not (eqb a (picked price (start n linked) k))) 0 (left_at price n linked k) (above_left k)
 
-  next-is : (k : ℕ) → k < n → IsNext price (remaining price (start n linked) k) (picked price (start n linked) k)
-  next-is k h =
+  next_is : (k : ℕ) → k < n → IsNext price (remaining price (start n linked) k) (picked price (start n linked) k)
+  next_is k h =
       let g = remaining price (start n linked) k in
       let p : ℕ → ℕ = λ v. price v (degree g v) in
       record {
-        left = member-from (next price g) g.left (first-among p g.left (omega (arith, lengths price n linked k (omega arith))));
-        least = λ w e. first-precedes p g.left (above-left k) w e;
+        left = member_from (next price g) g.left (first_among p g.left (omega (arith, lengths price n linked k (omega arith))));
+        least = λ w e. first_precedes p g.left (above_left k) w e;
       }
 
-  pub picks-next : PicksNext price n linked
-  picks-next k v h =
+  pub picks_next : PicksNext price n linked
+  picks_next k v h =
       let g = remaining price (start n linked) k in
       let p : ℕ → ℕ = λ v. price v (degree g v) in
-      let x = next-is k h in (
+      let x = next_is k h in (
         λ y. same_next p v (picked price (start n linked) k) (y.least (picked price (start n linked) k) x.left) (x.least v y.left),
         λ e. subst (IsNext price g) (sym e) x,
       )

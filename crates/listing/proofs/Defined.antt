@@ -10,8 +10,8 @@ use Rattle.graph.specs.Picking.{Price}
 use Rattle.plan.specs.Laid.{laid_rows, laid_marks, sheet_link}
 use Rattle.plan.specs.Lookups.{start_in}
 use Rattle.plan.specs.Planned.{Arrays, arrays_for}
-use Rattle.plan.proofs.Assembled.{joined_at, part-is, part_length}
-use Rattle.plan.proofs.Lays.{marks-length}
+use Rattle.plan.proofs.Assembled.{joined_at, part_is, part_length}
+use Rattle.plan.proofs.Lays.{marks_length}
 
 -- equal pieces, joined
 pub joined_same : {X : Type 0} (f h : ℕ → List X) (m s : ℕ) → ((k : ℕ) → s ≤ k → k < s + m → f k ≡ h k) → flat_map f (range_with_len s m) ≡ flat_map h (range_with_len s m)
@@ -20,8 +20,8 @@ joined_same f h (suc m) s e =
     ap₂ (λ xs ys. xs ++ ys) (e s (omega arith) (omega arith)) (joined_same f h m (s + 1) (λ k l u. e k (omega arith) (omega arith)))
 
 -- what holds of each position
-pub each-position : (n : ℕ) (P : ℕ → Type 0) → ((j : ℕ) → j < n → P (j + 1)) → (k : ℕ) → 1 ≤ k → k < 1 + n → P k
-each-position n P p k l h = let e : k - 1 + 1 ≡ k = omega arith in subst P e (p (k - 1) (omega arith))
+pub each_position : (n : ℕ) (P : ℕ → Type 0) → ((j : ℕ) → j < n → P (j + 1)) → (k : ℕ) → 1 ≤ k → k < 1 + n → P k
+each_position n P p k l h = let e : k - 1 + 1 ≡ k = omega arith in subst P e (p (k - 1) (omega arith))
 
 module _ (price : Price) (n : ℕ) (linked : ℕ → ℕ → Bool) where
   abbrev g : Graph
@@ -57,31 +57,31 @@ module _ (price : Price) (n : ℕ) (linked : ℕ → ℕ → Bool) where
     pub start_is : start_in a (j + 1) ≡ first
     start_is = let e : j + 1 - 1 ≡ j = omega arith in ap (λ x. get_or a.starts x 0) e
 
-    pub span-is : start_in a (j + 1 + 1) - (start_in a (j + 1) + 1) ≡ length (col (j + 1))
-    span-is =
+    pub span_is : start_in a (j + 1 + 1) - (start_in a (j + 1) + 1) ≡ length (col (j + 1))
+    span_is =
         let e : j + 1 + 1 - 1 ≡ j + 1 = omega arith in
         omega (arith, ap (λ x. get_or a.starts x 0) e, start_is, part_length col n j h)
 
-    rows-from : drop (first + 1) a.rows ≡ col (j + 1) ++ later_rows
-    rows-from = sym (drop-drop 1 first a.rows) ∙ ap (drop 1) (part-is col n j h)
+    rows_from : drop (first + 1) a.rows ≡ col (j + 1) ++ later_rows
+    rows_from = sym (drop-drop 1 first a.rows) ∙ ap (drop 1) (part_is col n j h)
 
-    marks-from : drop (first + 1) a.links ≡ map (mark (j + 1)) (col (j + 1)) ++ later_marks
-    marks-from =
+    marks_from : drop (first + 1) a.links ≡ map (mark (j + 1)) (col (j + 1)) ++ later_marks
+    marks_from =
         sym (drop-drop 1 first a.links)
         ∙ ap (λ ls. drop 1 (drop first ls)) (joined_at (λ k. false ∷ map (mark k) (col k)) n j h)
         ∙ ap (drop 1)
         (drop_at (laid_marks col mark j) _ first
-        (marks-length col mark j 1 ∙ sym (get_or-map-range_with_len (λ m. length (laid_rows col m)) 0 (n + 1) j j 0 (omega arith) (omega arith))))
+        (marks_length col mark j 1 ∙ sym (get_or-map-range_with_len (λ m. length (laid_rows col m)) 0 (n + 1) j j 0 (omega arith) (omega arith))))
 
     -- the row at a place of the column
     pub row_is : (i : ℕ) → i < length (col (j + 1)) → get_or a.rows (first + 1 + i) 0 ≡ get_or (col (j + 1)) i 0
     row_is i l =
-        sym (get_or-drop (first + 1) a.rows i 0) ∙ ap (λ xs. get_or xs i 0) rows-from ∙ get_or_append_left (col (j + 1)) later_rows 0 i l
+        sym (get_or-drop (first + 1) a.rows i 0) ∙ ap (λ xs. get_or xs i 0) rows_from ∙ get_or_append_left (col (j + 1)) later_rows 0 i l
 
     -- and whether it is a link of the sheet
-    pub mark-is : (i : ℕ) → i < length (col (j + 1)) → get_or a.links (first + 1 + i) false ≡ mark (j + 1) (get_or (col (j + 1)) i 0)
-    mark-is i l =
+    pub mark_is : (i : ℕ) → i < length (col (j + 1)) → get_or a.links (first + 1 + i) false ≡ mark (j + 1) (get_or (col (j + 1)) i 0)
+    mark_is i l =
         let marks = map (mark (j + 1)) (col (j + 1)) in
         let m : i < length marks = omega (arith, length-map (col (j + 1)) (mark (j + 1))) in
-        sym (get_or-drop (first + 1) a.links i false) ∙ ap (λ xs. get_or xs i false) marks-from
+        sym (get_or-drop (first + 1) a.links i false) ∙ ap (λ xs. get_or xs i false) marks_from
         ∙ get_or_append_left marks later_marks false i m ∙ get_or-map (mark (j + 1)) (col (j + 1)) i 0 false l

@@ -9,7 +9,7 @@ use Rattle.plan.specs.Planned.{Arrays, arrays_for, place_count}
 use Rattle.plan.specs.Subject.{Answers}
 use Rattle.plan.proofs.Subjects.{answers}
 use Rattle.listing.specs.Texts.{line_text, line_in, head_text, listing_text, line_for, plan_text, ListsPlan}
-use Rattle.listing.proofs.Defined.{joined_same, each-position, rows_all}
+use Rattle.listing.proofs.Defined.{joined_same, each_position, rows_all}
 
 module _ (price : Price) (n : ℕ) (linked : ℕ → ℕ → Bool) where
   abbrev g : Graph
@@ -25,23 +25,23 @@ module _ (price : Price) (n : ℕ) (linked : ℕ → ℕ → Bool) where
   abbrev Labelled : ℕ → Type 0
   Labelled i = label_in a i ≡ label_at price g i
 
-  labels-are : (is : List ℕ) → All Labelled is → map (label_in a) is ≡ map (label_at price g) is
-  labels-are [] h = refl
-  labels-are (i ∷ is) h = ap₂ (λ x xs. x ∷ xs) h.0 (labels-are is h.1)
+  labels_are : (is : List ℕ) → All Labelled is → map (label_in a) is ≡ map (label_at price g) is
+  labels_are [] h = refl
+  labels_are (i ∷ is) h = ap₂ (λ x xs. x ∷ xs) h.0 (labels_are is h.1)
 
-  line-is : (j : ℕ) → j < n → line_in a (j + 1) ≡ line_for price g n (j + 1)
-  line-is j h =
+  line_is : (j : ℕ) → j < n → line_in a (j + 1) ≡ line_for price g n (j + 1)
+  line_is j h =
       ap (λ x. line_text (j + 1) x (parent_in a (j + 1)) (map (label_in a) (rows_in a (j + 1)))) (plan.labels (j + 1) (omega arith) (omega arith))
       ∙ ap₂ (λ x xs. line_text (j + 1) (label_at price g (j + 1)) x xs)
       (plan.parents (j + 1) (omega arith) (omega arith))
       (ap (map (label_in a)) (plan.columns (j + 1) (omega arith) (omega arith))
-      ∙ labels-are (column price g n (j + 1)) (rows_all price n linked Labelled (j + 1) (λ i l u. plan.labels i (omega arith) u)))
+      ∙ labels_are (column price g n (j + 1)) (rows_all price n linked Labelled (j + 1) (λ i l u. plan.labels i (omega arith) u)))
 
-  listing-is : listing_text a ≡ plan_text price n linked
-  listing-is =
+  listing_is : listing_text a ≡ plan_text price n linked
+  listing_is =
       ap₂ (λ m p. head_text m p ++ flat_map (line_in a) (range_with_len 1 m)) plan.size plan.places
       ∙ ap (λ ls. head_text n (place_count price n linked) ++ ls)
-      (joined_same (line_in a) (line_for price g n) n 1 (each-position n (λ k. line_in a k ≡ line_for price g n k) line-is))
+      (joined_same (line_in a) (line_for price g n) n 1 (each_position n (λ k. line_in a k ≡ line_for price g n k) line_is))
 
-pub lists-plan : ListsPlan
-lists-plan price n linked = listing-is price n linked
+pub lists_plan : ListsPlan
+lists_plan price n linked = listing_is price n linked

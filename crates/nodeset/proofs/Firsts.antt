@@ -5,8 +5,8 @@ use lib.Count.{count_trailing_zeros}
 use Rattle.std.proofs.lemmas.Nat.{shr_below}
 use Rattle.std.proofs.lemmas.Bool.{cases_lt, false≢true}
 use Rattle.nodeset.specs.Sets.{bit_at, first_of}
-use Rattle.nodeset.proofs.Bits.{bit-shr, bit-of-zero, trailing_below, trailing_at}
-use Rattle.nodeset.proofs.Counted.{word-bit}
+use Rattle.nodeset.proofs.Bits.{bit_shr, bit_of_zero, trailing_below, trailing_at}
+use Rattle.nodeset.proofs.Counted.{word_bit}
 use Rattle.nodeset.proofs.Members.{has_in}
 
 -- a number below m, if there is one
@@ -16,20 +16,20 @@ Below m (Some x) = x < m
 
 module _ (test : ℕ → Bool) where
   -- numbers that fail the test are passed over
-  pub first-skip : (t m i : ℕ) → t ≤ m → ((j : ℕ) → j < t → test (i + j) ≡ false) → first_of test i m ≡ first_of test (i + t) (m - t)
-  first-skip zero m i h off = let e : i ≡ i + 0 = omega arith in let z : m ≡ m - 0 = omega arith in ap₂ (first_of test) e z
-  first-skip (suc t) zero i h off = absurd (omega (arith, h))
-  first-skip (suc t) (suc m) i h off =
+  pub first_skip : (t m i : ℕ) → t ≤ m → ((j : ℕ) → j < t → test (i + j) ≡ false) → first_of test i m ≡ first_of test (i + t) (m - t)
+  first_skip zero m i h off = let e : i ≡ i + 0 = omega arith in let z : m ≡ m - 0 = omega arith in ap₂ (first_of test) e z
+  first_skip (suc t) zero i h off = absurd (omega (arith, h))
+  first_skip (suc t) (suc m) i h off =
       let z : i + 0 ≡ i = omega arith in
       let e : i + 1 + t ≡ i + suc t = omega arith in
       let d : m - t ≡ suc m - suc t = omega arith in
       ap (λ b. cond b (Some i) (first_of test (i + 1) m)) (ap test (sym z) ∙ off 0 (omega arith))
-      ∙ first-skip t m (i + 1) (omega (arith, h)) (λ j l. let s : i + 1 + j ≡ i + suc j = omega arith in ap test s ∙ off (suc j) (omega (arith, l)))
+      ∙ first_skip t m (i + 1) (omega (arith, h)) (λ j l. let s : i + 1 + j ≡ i + suc j = omega arith in ap test s ∙ off (suc j) (omega (arith, l)))
       ∙ ap₂ (first_of test) e d
 
-  pub first-here : (m i : ℕ) → 0 < m → test i ≡ true → first_of test i m ≡ Some i
-  first-here zero i h e = absurd (omega (arith, h))
-  first-here (suc m) i h e = ap (λ b. cond b (Some i) (first_of test (i + 1) m)) e
+  pub first_here : (m i : ℕ) → 0 < m → test i ≡ true → first_of test i m ≡ Some i
+  first_here zero i h e = absurd (omega (arith, h))
+  first_here (suc m) i h e = ap (λ b. cond b (Some i) (first_of test (i + 1) m)) e
 
   within : (m i : ℕ) → Below (i + m) (first_of test i m)
   within zero i = tt
@@ -67,19 +67,19 @@ module _ (word low m : ℕ) (e : m ≡ 64) (h : low < 64) (fits : word < 2 ^ m) 
   abbrev t : ℕ
   t = count_trailing_zeros m rest
 
-  pub lowest-some : 0 < rest → (t < 64 - low) × (first_of (bit_at word) low (64 - low) ≡ Some (low + t))
-  lowest-some some =
+  pub lowest_some : 0 < rest → (t < 64 - low) × (first_of (bit_at word) low (64 - low) ≡ Some (low + t))
+  lowest_some some =
       let set = trailing_at m rest short some in
       let inside = bit_below rest t (64 - low) set rest_below in (
         inside,
-        first-skip (bit_at word) t (64 - low) low (omega (arith, inside)) (λ j l. sym (bit-shr word low j) ∙ trailing_below m rest j l)
-            ∙ first-here (bit_at word) (64 - low - t) (low + t) (omega (arith, inside)) (sym (bit-shr word low t) ∙ set),
+        first_skip (bit_at word) t (64 - low) low (omega (arith, inside)) (λ j l. sym (bit_shr word low j) ∙ trailing_below m rest j l)
+            ∙ first_here (bit_at word) (64 - low - t) (low + t) (omega (arith, inside)) (sym (bit_shr word low t) ∙ set),
       )
 
-  pub lowest-none : rest ≡ 0 → first_of (bit_at word) low (64 - low) ≡ None
-  lowest-none none =
+  pub lowest_none : rest ≡ 0 → first_of (bit_at word) low (64 - low) ≡ None
+  lowest_none none =
       let z : 64 - low - (64 - low) ≡ 0 = omega arith in
-      first-skip (bit_at word) (64 - low) (64 - low) low (omega arith) (λ j l. sym (bit-shr word low j) ∙ ap (λ x. bit_at x j) none ∙ bit-of-zero j)
+      first_skip (bit_at word) (64 - low) (64 - low) low (omega arith) (λ j l. sym (bit_shr word low j) ∙ ap (λ x. bit_at x j) none ∙ bit_of_zero j)
       ∙ ap (first_of (bit_at word) (low + (64 - low))) z
 
 -- a number found, s further on
@@ -92,13 +92,13 @@ moved_cond s i true o = refl
 moved_cond s i false o = refl
 
 -- a test that goes as another s further on
-first-moved : (f g : ℕ → Bool) (s m i : ℕ) → ((j : ℕ) → j < m → f (s + (i + j)) ≡ g (i + j)) → first_of f (s + i) m ≡ moved s (first_of g i m)
-first-moved f g s zero i same = refl
-first-moved f g s (suc m) i same =
+first_moved : (f g : ℕ → Bool) (s m i : ℕ) → ((j : ℕ) → j < m → f (s + (i + j)) ≡ g (i + j)) → first_of f (s + i) m ≡ moved s (first_of g i m)
+first_moved f g s zero i same = refl
+first_moved f g s (suc m) i same =
     let z : i ≡ i + 0 = omega arith in
     let e : s + i + 1 ≡ s + (i + 1) = omega arith in
     ap₂ (λ b o. cond b (Some (s + i)) o) (ap (λ x. f (s + x)) z ∙ same 0 (omega arith) ∙ ap g (sym z))
-    (ap (λ x. first_of f x m) e ∙ first-moved f g s m (i + 1) (λ j l. let d : i + 1 + j ≡ i + suc j = omega arith in ap (λ x. f (s + x)) d ∙ same (suc j) (omega (arith, l)) ∙ ap g (sym d)))
+    (ap (λ x. first_of f x m) e ∙ first_moved f g s m (i + 1) (λ j l. let d : i + 1 + j ≡ i + suc j = omega arith in ap (λ x. f (s + x)) d ∙ same (suc j) (omega (arith, l)) ∙ ap g (sym d)))
     ∙ moved_cond s i (g i) (first_of g (i + 1) m)
 
 -- what is found among the first m numbers is found among more, and what isn't, further on
@@ -106,17 +106,17 @@ abbrev or_later : Option ℕ → Option ℕ → Option ℕ
 or_later None o = o
 or_later (Some x) o = Some x
 
-later-cond : (i : ℕ) (b : Bool) (o p : Option ℕ) → cond b (Some i) (or_later o p) ≡ or_later (cond b (Some i) o) p
-later-cond i true o p = refl
-later-cond i false o p = refl
+later_cond : (i : ℕ) (b : Bool) (o p : Option ℕ) → cond b (Some i) (or_later o p) ≡ or_later (cond b (Some i) o) p
+later_cond i true o p = refl
+later_cond i false o p = refl
 
-first-later : (f : ℕ → Bool) (m k i : ℕ) → first_of f i (m + k) ≡ or_later (first_of f i m) (first_of f (i + m) k)
-first-later f zero k i = let e : i ≡ i + 0 = omega arith in let z : 0 + k ≡ k = omega arith in ap₂ (first_of f) e z
-first-later f (suc m) k i =
+first_later : (f : ℕ → Bool) (m k i : ℕ) → first_of f i (m + k) ≡ or_later (first_of f i m) (first_of f (i + m) k)
+first_later f zero k i = let e : i ≡ i + 0 = omega arith in let z : 0 + k ≡ k = omega arith in ap₂ (first_of f) e z
+first_later f (suc m) k i =
     let s : suc m + k ≡ suc (m + k) = omega arith in
     let e : i + 1 + m ≡ i + suc m = omega arith in
-    ap (first_of f i) s ∙ ap (cond (f i) (Some i)) (first-later f m k (i + 1) ∙ ap (λ x. or_later (first_of f (i + 1) m) (first_of f x k)) e)
-    ∙ later-cond i (f i) (first_of f (i + 1) m) (first_of f (i + suc m) k)
+    ap (first_of f i) s ∙ ap (cond (f i) (Some i)) (first_later f m k (i + 1) ∙ ap (λ x. or_later (first_of f (i + 1) m) (first_of f x k)) e)
+    ∙ later_cond i (f i) (first_of f (i + 1) m) (first_of f (i + suc m) k)
 
 module _ (words : List ℕ) (at : ℕ) (low : at < 512) where
   abbrev member : ℕ → Bool
@@ -131,10 +131,10 @@ module _ (words : List ℕ) (at : ℕ) (low : at < 512) where
       let s : 512 - at ≡ 64 - at % 64 + (512 - (at / 64 + 1) * 64) = omega arith in
       let n : at + (64 - at % 64) ≡ (at / 64 + 1) * 64 = omega arith in
       let q : at ≡ 64 * (at / 64) + at % 64 = omega arith in
-      ap (first_of member at) s ∙ first-later member (64 - at % 64) (512 - (at / 64 + 1) * 64) at
+      ap (first_of member at) s ∙ first_later member (64 - at % 64) (512 - (at / 64 + 1) * 64) at
       ∙ ap₂ or_later
       (ap (λ x. first_of member x (64 - at % 64)) q
-      ∙ first-moved member (bit_at (get_or words (at / 64) 0)) (64 * (at / 64)) (64 - at % 64) (at % 64) (λ j l. word-bit words (at / 64) (at % 64 + j) (omega (arith, low)) (omega (arith, l))))
+      ∙ first_moved member (bit_at (get_or words (at / 64) 0)) (64 * (at / 64)) (64 - at % 64) (at % 64) (λ j l. word_bit words (at / 64) (at % 64 + j) (omega (arith, low)) (omega (arith, l))))
       (ap (λ x. first_of member x (512 - (at / 64 + 1) * 64)) n)
 
   pub found_here : (bit : ℕ) → found ≡ Some bit → first_of member at (512 - at) ≡ Some (at / 64 * 64 + bit)
@@ -142,5 +142,5 @@ module _ (words : List ℕ) (at : ℕ) (low : at < 512) where
       let c : 64 * (at / 64) + bit ≡ at / 64 * 64 + bit = omega arith in
       in_words ∙ ap (λ o. or_later (moved (64 * (at / 64)) o) (first_of member ((at / 64 + 1) * 64) (512 - (at / 64 + 1) * 64))) e ∙ ap Some c
 
-  pub found-later : found ≡ None → first_of member at (512 - at) ≡ first_of member ((at / 64 + 1) * 64) (512 - (at / 64 + 1) * 64)
-  found-later e = in_words ∙ ap (λ o. or_later (moved (64 * (at / 64)) o) (first_of member ((at / 64 + 1) * 64) (512 - (at / 64 + 1) * 64))) e
+  pub found_later : found ≡ None → first_of member at (512 - at) ≡ first_of member ((at / 64 + 1) * 64) (512 - (at / 64 + 1) * 64)
+  found_later e = in_words ∙ ap (λ o. or_later (moved (64 * (at / 64)) o) (first_of member ((at / 64 + 1) * 64) (512 - (at / 64 + 1) * 64))) e

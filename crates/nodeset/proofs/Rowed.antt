@@ -6,9 +6,9 @@ use Rattle.std.proofs.lemmas.Bool.{cases_eq, cases_lt, eq-eqb, ne_eqb, lt-ltb, a
 use Rattle.nodeset.specs.declared.sets.NodeSet.{NodeSet}
 use Rattle.nodeset.specs.Rows.{no_nodes, in_rows, linked_also, joined_to}
 use Rattle.nodeset.specs.Sets.{bit_at, has, count_below, first_of}
-use Rattle.nodeset.proofs.Bits.{bit-of-zero}
-use Rattle.nodeset.proofs.Firsts.{first-skip}
-use Rattle.nodeset.proofs.Members.{or-none}
+use Rattle.nodeset.proofs.Bits.{bit_of_zero}
+use Rattle.nodeset.proofs.Firsts.{first_skip}
+use Rattle.nodeset.proofs.Members.{or_none}
 
 -- past the rows there is nothing
 none_has : (b : ℕ) → has no_nodes b ≡ false
@@ -17,18 +17,18 @@ none_has b =
     (ap (λ w. bit_at w (b % 64)) (elim (cases_lt (b / 64) 8) [
       | inl l ↦ get_or-replicate 8 (b / 64) 0 0 l
       | inr l ↦ get_or_past (replicate 8 0) (b / 64) 0 (omega (arith, l, length-replicate {A = ℕ} 8 0))
-    ]) ∙ bit-of-zero (b % 64))
+    ]) ∙ bit_of_zero (b % 64))
 
-pub past-rows : (sets : List NodeSet) (a b : ℕ) → length sets ≤ a → in_rows sets a b ≡ false
-past-rows sets a b h = ap (λ s. has s b) (get_or_past sets a no_nodes h) ∙ none_has b
+pub past_rows : (sets : List NodeSet) (a b : ℕ) → length sets ≤ a → in_rows sets a b ≡ false
+past_rows sets a b h = ap (λ s. has s b) (get_or_past sets a no_nodes h) ∙ none_has b
 
 -- rows that have nothing
-pub empty-rows : (sets : List NodeSet) (m : ℕ) (x : NodeSet) → sets ≡ replicate m x → ((b : ℕ) → has x b ≡ false) → (a b : ℕ) → in_rows sets a b ≡ false
-empty-rows sets m x e off a b =
+pub empty_rows : (sets : List NodeSet) (m : ℕ) (x : NodeSet) → sets ≡ replicate m x → ((b : ℕ) → has x b ≡ false) → (a b : ℕ) → in_rows sets a b ≡ false
+empty_rows sets m x e off a b =
     ap (λ l. in_rows l a b) e
     ∙ elim (cases_lt a m) [
       | inl l ↦ ap (λ s. has s b) (get_or-replicate m a x no_nodes l) ∙ off b
-      | inr l ↦ past-rows (replicate m x) a b (omega (arith, l, length-replicate m x))
+      | inr l ↦ past_rows (replicate m x) a b (omega (arith, l, length-replicate m x))
     ]
 
 -- a test that nothing passes
@@ -36,8 +36,8 @@ pub count_none : (test : ℕ → Bool) (m : ℕ) → ((i : ℕ) → test i ≡ f
 count_none test zero off = refl
 count_none test (suc m) off = ap₂ (λ x t. x + cond t 1 0) (count_none test m off) (off m)
 
-pub first-none : (test : ℕ → Bool) (i m : ℕ) → ((i : ℕ) → test i ≡ false) → first_of test i m ≡ None
-first-none test i m off = let z : m - m ≡ 0 = omega arith in first-skip test m m i (omega arith) (λ j l. off (i + j)) ∙ ap (first_of test (i + m)) z
+pub first_none : (test : ℕ → Bool) (i m : ℕ) → ((i : ℕ) → test i ≡ false) → first_of test i m ≡ None
+first_none test i m off = let z : m - m ≡ 0 = omega arith in first_skip test m m i (omega arith) (λ j l. off (i + j)) ∙ ap (first_of test (i + m)) z
 
 -- a row is changed
 module _ (sets : List NodeSet) (a : ℕ) (h : a < length sets) (row : NodeSet) where
@@ -53,19 +53,19 @@ module _ (sets : List NodeSet) (a : ℕ) (h : a < length sets) (row : NodeSet) w
       elim (cases_eq i a) [
         | inl e ↦
             own i j e ∙ is j
-            ∙ ap₂ (λ x t. x || t) (ap (λ x. in_rows sets x j) (sym e)) (low-only ∙ sym (ap (λ t. t && eqb b j) (eq-eqb a i (sym e))))
-        | inr ne ↦ other i j ne ∙ sym (ap (λ t. in_rows sets i j || (t && eqb b j)) (ne_eqb a i (λ e. ne (sym e))) ∙ or-none (in_rows sets i j))
+            ∙ ap₂ (λ x t. x || t) (ap (λ x. in_rows sets x j) (sym e)) (low_only ∙ sym (ap (λ t. t && eqb b j) (eq-eqb a i (sym e))))
+        | inr ne ↦ other i j ne ∙ sym (ap (λ t. in_rows sets i j || (t && eqb b j)) (ne_eqb a i (λ e. ne (sym e))) ∙ or_none (in_rows sets i j))
       ] where
-        low-only : (eqb b j && ltb j 512) ≡ eqb b j
-        low-only =
+        low_only : (eqb b j && ltb j 512) ≡ eqb b j
+        low_only =
             elim (cases_eq b j) [
               | inl e ↦ ap₂ (λ x y. x && y) (eq-eqb b j e) (lt-ltb j 512 (omega (arith, e, low))) ∙ sym (eq-eqb b j e)
               | inr ne ↦ ap (λ x. x && ltb j 512) (ne_eqb b j ne) ∙ sym (ne_eqb b j ne)
             ]
 
   -- by those of another
-  pub row-joined : (v : ℕ) → v < 512 → a < 512 → ((j : ℕ) → has row j ≡ (((in_rows sets v j || in_rows sets a j) && not (eqb a j)) && not (eqb v j))) → (i j : ℕ) → in_rows (set sets a row) i j ≡ joined_to (in_rows sets) v a i j
-  row-joined v low lower is i j =
+  pub row_joined : (v : ℕ) → v < 512 → a < 512 → ((j : ℕ) → has row j ≡ (((in_rows sets v j || in_rows sets a j) && not (eqb a j)) && not (eqb v j))) → (i j : ℕ) → in_rows (set sets a row) i j ≡ joined_to (in_rows sets) v a i j
+  row_joined v low lower is i j =
       let both : (ltb v 512 && ltb a 512) ≡ true = ap₂ (λ x y. x && y) (lt-ltb v 512 low) (lt-ltb a 512 lower) in
       elim (cases_eq i a) [
         | inl e ↦ own i j e ∙ is j ∙ sym (ap₂ (λ x y. chosen (x && y) i j) both (eq-eqb a i (sym e)))
@@ -75,11 +75,11 @@ module _ (sets : List NodeSet) (a : ℕ) (h : a < length sets) (row : NodeSet) w
         chosen t i j = cond t (((in_rows sets v j || in_rows sets a j) && not (eqb a j)) && not (eqb v j)) (in_rows sets i j)
 
 -- two nodes are linked, both ways
-pub rows-linked : (sets : List NodeSet) (a b : ℕ) (x y : NodeSet) → length sets ≡ 512 → a < 512 → b < 512
+pub rows_linked : (sets : List NodeSet) (a b : ℕ) (x y : NodeSet) → length sets ≡ 512 → a < 512 → b < 512
     → ((j : ℕ) → has x j ≡ (in_rows sets a j || (eqb b j && ltb j 512)))
     → ((j : ℕ) → has y j ≡ (in_rows (set sets a x) b j || (eqb a j && ltb j 512)))
     → (i j : ℕ) → in_rows (set (set sets a x) b y) i j ≡ linked_also (in_rows sets) a b i j
-rows-linked sets a b x y long la lb hx hy i j =
+rows_linked sets a b x y long la lb hx hy i j =
     let first = row_more sets a (omega (arith, long)) x b lb hx i j in
     let second = row_more (set sets a x) b (omega (arith, long, length-set sets a x)) y a la hy i j in
     second ∙ ap (λ t. t || (eqb b i && eqb a j)) first ∙ or_assoc (in_rows sets i j) (eqb a i && eqb b j) (eqb b i && eqb a j)

@@ -9,22 +9,22 @@ use Rattle.square.specs.Solution.{Vector, taken_from, backward}
 use Rattle.square.specs.Squares.{Matrix}
 use Rattle.numeric.specs.Passes.{backward_step}
 use Rattle.numeric.specs.Positions.{Position}
-use Rattle.numeric.proofs.Layouts.{Place, row_at, at_place, no_place, rising, row-position}
+use Rattle.numeric.proofs.Layouts.{Place, row_at, at_place, no_place, rising, row_position}
 
 -- positions with nothing in column k may be passed over
-take-skip : {X : Type 0} (s : Solvers X) (e : X) (m : Matrix X) (k : ℕ) (y : Vector X) → ((b x : X) → s.taken b e x ≡ b)
+take_skip : {X : Type 0} (s : Solvers X) (e : X) (m : Matrix X) (k : ℕ) (y : Vector X) → ((b x : X) → s.taken b e x ≡ b)
     → (d i left : ℕ) (b : X) → ((x : ℕ) → (i ≤ x) × (x < i + d) → m x k ≡ e) → taken_from s m k y b i (d + left) ≡ taken_from s m k y b (i + d) left
-take-skip s e m k y calm zero i left b none =
+take_skip s e m k y calm zero i left b none =
     let p : zero + left ≡ left = omega arith in
     let q : i ≡ i + zero = omega arith in
     ap₂ (λ x z. taken_from s m k y b x z) q p
-take-skip s e m k y calm (suc d) i left b none =
+take_skip s e m k y calm (suc d) i left b none =
     let p : suc d + left ≡ suc (d + left) = omega arith in
     let q : suc i + d ≡ i + suc d = omega arith in
     let idle : s.taken b (m i k) (y i) ≡ b = ap (λ u. s.taken b u (y i)) (none i (omega arith, omega arith)) ∙ calm b (y i) in
     ap (λ z. taken_from s m k y b i z) p
     ∙ ap (λ z. taken_from s m k y z (suc i) (d + left)) idle
-    ∙ take-skip s e m k y calm d (suc i) left b (λ x h. none x (omega (arith, h.0), omega (arith, h.1)))
+    ∙ take_skip s e m k y calm d (suc i) left b (λ x h. none x (omega (arith, h.0), omega (arith, h.1)))
     ∙ ap (λ z. taken_from s m k y b z left) q
 
 -- what is taken depends on the positions from i on alone
@@ -59,11 +59,11 @@ module _ {X : Type 0} (s : Solvers X) (e : X) (calm : (b x : X) → s.taken b e 
       let i = suc (row_at a (p - 1)) in
       let j = row_at a p in
       let rise : row_at a (p - 1) < j = rising a k column (p - 1) p (omega arith) (omega arith) h in
-      let high : j ≤ n = (row-position a k column p low h).high in
+      let high : j ≤ n = (row_position a k column p low h).high in
       let place : Place a j k p = record { column = column; low = omega arith; high = h; row = refl } in
       let count : n - row_at a (p - 1) ≡ (j - i) + suc (n - j) = omega arith in
       let to : i + (j - i) ≡ j = omega arith in
-      let skip = take-skip s e M k y calm (j - i) i (suc (n - j)) b (λ x m. between x (omega (arith, m.0))
+      let skip = take_skip s e M k y calm (j - i) i (suc (n - j)) b (λ x m. between x (omega (arith, m.0))
       (λ q l r. elim (cases_eq q p) [
         | inl same ↦ omega (arith, m.1, ap (row_at a) same)
         | inr ne ↦ omega (arith, m.1, rising a k column p q (omega arith) (omega arith) r)
@@ -75,18 +75,18 @@ module _ {X : Type 0} (s : Solvers X) (e : X) (calm : (b x : X) → s.taken b e 
       ∙ ap (λ z. taken_from s M k y b i z) (sym count)
       ∙ run
 
-  pub take-all-rows : p ≡ start_in a (k + 1) → b ≡ total
-  take-all-rows end =
+  pub take_all_rows : p ≡ start_in a (k + 1) → b ≡ total
+  take_all_rows end =
       let n = size_in a in
       let i = suc (row_at a (p - 1)) in
       let count : n - row_at a (p - 1) ≡ (n - row_at a (p - 1)) + 0 = omega arith in
-      let skip = take-skip s e M k y calm (n - row_at a (p - 1)) i 0 b (λ x m. between x (omega (arith, m.0)) (λ q l r. absurd (omega arith)) (omega arith)) in
+      let skip = take_skip s e M k y calm (n - row_at a (p - 1)) i 0 b (λ x m. between x (omega (arith, m.0)) (λ q l r. absurd (omega arith)) (omega arith)) in
       sym skip ∙ ap (λ z. taken_from s M k y b i z) (sym count) ∙ run
 
 -- the pass back over the positions past k, and a step at k
-pub backward-on : {X : Type 0} (s : Solvers X) (m : Matrix X) (z y v : Vector X) (n k i : ℕ) → 0 < k → k ≤ n → 0 < i → i ≤ n
+pub backward_on : {X : Type 0} (s : Solvers X) (m : Matrix X) (z y v : Vector X) (n k i : ℕ) → 0 < k → k ≤ n → 0 < i → i ≤ n
     → ((i : ℕ) → 0 < i → i ≤ n → y i ≡ backward s m n z (n - k) i) → v i ≡ backward_step s m n k y i → v i ≡ backward s m n z (n - (k - 1)) i
-backward-on s m z y v n k i k-low k-high i-low i-high run is =
+backward_on s m z y v n k i k-low k-high i-low i-high run is =
     let at : k ≡ n - (n - k) = omega arith in
     let next : suc (n - k) ≡ n - (k - 1) = omega arith in
     let u = backward s m n z (n - k) in

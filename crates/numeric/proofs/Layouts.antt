@@ -8,7 +8,7 @@ use Rattle.graph.specs.Columns.{any_below}
 use Rattle.plan.specs.Layout.{among_rows, holds, on_sheet}
 use Rattle.plan.specs.Lookups.{size_in, start_in, rows_in, place_in, index_from}
 use Rattle.plan.specs.Planned.{Arrays, Keeps}
-use Rattle.plan.proofs.Spans.{starts-rise, index-found, index-none}
+use Rattle.plan.proofs.Spans.{starts_rise, index_found, index_none}
 use Rattle.square.specs.Plans.{place_at, number_at, matrix_of}
 use Rattle.numeric.specs.Positions.{Position}
 
@@ -25,61 +25,61 @@ pub record Place (a : Arrays) (i j q : ℕ) : Type 0 where
 
 -- ---- where columns stand
 
-pub starts-ascend : (a : Arrays) → Keeps a → (j k : ℕ) → 0 < j → j ≤ k → k ≤ size_in a + 1 → start_in a j ≤ start_in a k
-starts-ascend a keeps j k l h u =
+pub starts_ascend : (a : Arrays) → Keeps a → (j k : ℕ) → 0 < j → j ≤ k → k ≤ size_in a + 1 → start_in a j ≤ start_in a k
+starts_ascend a keeps j k l h u =
     let e : j - 1 + (k - j) ≡ k - 1 = omega arith in
-    omega (arith, starts-rise (size_in a) a.starts keeps.starting.2 (j - 1) (k - j) (omega arith), ap (λ x. get_or a.starts x 0) e)
+    omega (arith, starts_rise (size_in a) a.starts keeps.starting.2 (j - 1) (k - j) (omega arith), ap (λ x. get_or a.starts x 0) e)
 
 module _ (a : Arrays) (k : ℕ) (p : Position a k) where
-  pub column-some : start_in a k < start_in a (k + 1)
-  column-some =
+  pub column_some : start_in a k < start_in a (k + 1)
+  column_some =
       let e : k - 1 + 1 ≡ k + 1 - 1 = omega (arith, p.low) in
       omega (arith, p.keeps.starting.2 (k - 1) (omega (arith, p.low, p.high)), ap (λ x. get_or a.starts x 0) e)
 
-  pub column-ends : start_in a (k + 1) ≤ length a.rows
-  column-ends =
+  pub column_ends : start_in a (k + 1) ≤ length a.rows
+  column_ends =
       let e : size_in a + 1 - 1 ≡ size_in a = omega arith in
-      omega (arith, starts-ascend a p.keeps (k + 1) (size_in a + 1) (omega arith) (omega (arith, p.high)) (omega arith), ap (λ x. get_or a.starts x 0) e, p.keeps.starting.1)
+      omega (arith, starts_ascend a p.keeps (k + 1) (size_in a + 1) (omega arith) (omega (arith, p.high)) (omega arith), ap (λ x. get_or a.starts x 0) e, p.keeps.starting.1)
 
   pub head : row_at a (start_in a k) ≡ k
   head = omega (arith, p.keeps.headed (k - 1) (omega (arith, p.low, p.high)), p.low)
 
-  rising-by : (q m : ℕ) → start_in a k ≤ q → q + m < start_in a (k + 1) → row_at a q + m ≤ row_at a (q + m)
-  rising-by q zero l h = let e : q ≡ q + 0 = omega arith in omega (arith, ap (row_at a) e)
-  rising-by q (suc m) l h =
+  rising_by : (q m : ℕ) → start_in a k ≤ q → q + m < start_in a (k + 1) → row_at a q + m ≤ row_at a (q + m)
+  rising_by q zero l h = let e : q ≡ q + 0 = omega arith in omega (arith, ap (row_at a) e)
+  rising_by q (suc m) l h =
       let e : q + m + 1 ≡ q + suc m = omega arith in
       let f : k - 1 + 1 ≡ k + 1 - 1 = omega (arith, p.low) in
       let more : q + m + 1 < get_or a.starts (k - 1 + 1) 0 = omega (arith, ap (λ x. get_or a.starts x 0) f) in
-      omega (arith, rising-by q m l (omega arith), p.keeps.rising (k - 1) (q + m) (omega (arith, p.low, p.high)) (omega arith, more), ap (row_at a) e)
+      omega (arith, rising_by q m l (omega arith), p.keeps.rising (k - 1) (q + m) (omega (arith, p.low, p.high)) (omega arith, more), ap (row_at a) e)
 
   -- the rows of a column ascend
   pub rising : (q t : ℕ) → start_in a k ≤ q → q < t → t < start_in a (k + 1) → row_at a q < row_at a t
-  rising q t l h u = let e : q + (t - q) ≡ t = omega arith in omega (arith, rising-by q (t - q) l (omega arith), ap (row_at a) e)
+  rising q t l h u = let e : q + (t - q) ≡ t = omega arith in omega (arith, rising_by q (t - q) l (omega arith), ap (row_at a) e)
 
   -- and past the diagonal they lie beyond it
-  pub row-past : (q : ℕ) → start_in a k < q → q < start_in a (k + 1) → k < row_at a q
-  row-past q l h = omega (arith, rising (start_in a k) q (omega arith) l h, head)
+  pub row_past : (q : ℕ) → start_in a k < q → q < start_in a (k + 1) → k < row_at a q
+  row_past q l h = omega (arith, rising (start_in a k) q (omega arith) l h, head)
 
-  pub row-position : (q : ℕ) → start_in a k < q → q < start_in a (k + 1) → Position a (row_at a q)
-  row-position q l h = record {
+  pub row_position : (q : ℕ) → start_in a k < q → q < start_in a (k + 1) → Position a (row_at a q)
+  row_position q l h = record {
     keeps = p.keeps;
-    low = omega (arith, row-past q l h);
-    high = p.keeps.within q (omega (arith, column-ends));
+    low = omega (arith, row_past q l h);
+    high = p.keeps.within q (omega (arith, column_ends));
   }
 
   pub diagonal : Place a k k (start_in a k)
-  diagonal = record { column = p; low = omega arith; high = column-some; row = head }
+  diagonal = record { column = p; low = omega arith; high = column_some; row = head }
 
   -- column k lies before the column of each row below its diagonal
   pub target_past : (q : ℕ) → start_in a k < q → q < start_in a (k + 1) → start_in a (k + 1) ≤ start_in a (row_at a q)
-  target_past q l h = starts-ascend a p.keeps (k + 1) (row_at a q) (omega arith) (omega (arith, row-past q l h)) (omega (arith, (row-position q l h).high))
+  target_past q l h = starts_ascend a p.keeps (k + 1) (row_at a q) (omega arith) (omega (arith, row_past q l h)) (omega (arith, (row_position q l h).high))
 
 -- a place is in one column only
-pub same-column : (a : Arrays) (j k q : ℕ) → Position a j → Position a k → start_in a j ≤ q → q < start_in a (j + 1) → start_in a k ≤ q → q < start_in a (k + 1) → j ≡ k
-same-column a j k q pj pk aj bj ak bk = elim (cases_order j k) [
+pub same_column : (a : Arrays) (j k q : ℕ) → Position a j → Position a k → start_in a j ≤ q → q < start_in a (j + 1) → start_in a k ≤ q → q < start_in a (k + 1) → j ≡ k
+same_column a j k q pj pk aj bj ak bk = elim (cases_order j k) [
   | inl e ↦ e
-  | inr (inl l) ↦ absurd (omega (arith, starts-ascend a pj.keeps (j + 1) k (omega arith) (omega arith) (omega (arith, pk.high))))
-  | inr (inr l) ↦ absurd (omega (arith, starts-ascend a pj.keeps (k + 1) j (omega arith) (omega arith) (omega (arith, pj.high))))
+  | inr (inl l) ↦ absurd (omega (arith, starts_ascend a pj.keeps (j + 1) k (omega arith) (omega arith) (omega (arith, pk.high))))
+  | inr (inr l) ↦ absurd (omega (arith, starts_ascend a pj.keeps (k + 1) j (omega arith) (omega arith) (omega (arith, pj.high))))
 ]
 
 -- ---- the place of a row
@@ -100,19 +100,19 @@ seek (x ∷ xs) i = elim (cases_eq x i) [
     by (suc k) none ne h e = none k (omega arith) e
 
 module _ (a : Arrays) (j : ℕ) (p : Position a j) where
-  column-length : length (between (start_in a j) (start_in a (j + 1)) a.rows) ≡ start_in a (j + 1) - start_in a j
-  column-length = length-between a.rows (start_in a j) (start_in a (j + 1)) (column-ends a j p)
+  column_length : length (between (start_in a j) (start_in a (j + 1)) a.rows) ≡ start_in a (j + 1) - start_in a j
+  column_length = length-between a.rows (start_in a j) (start_in a (j + 1)) (column_ends a j p)
 
-  column-at : (k : ℕ) → start_in a j + k < start_in a (j + 1) → get_or (between (start_in a j) (start_in a (j + 1)) a.rows) k 0 ≡ row_at a (start_in a j + k)
-  column-at k h = get_or-between a.rows (start_in a j) (start_in a (j + 1)) k 0 h
+  column_at : (k : ℕ) → start_in a j + k < start_in a (j + 1) → get_or (between (start_in a j) (start_in a (j + 1)) a.rows) k 0 ≡ row_at a (start_in a j + k)
+  column_at k h = get_or-between a.rows (start_in a j) (start_in a (j + 1)) k 0 h
 
   -- the diagonal and the rows of a column are the rows at its places
-  pub column-is : j ∷ rows_in a j ≡ between (start_in a j) (start_in a (j + 1)) a.rows
-  column-is =
-      let some = column-some a j p in
+  pub column_is : j ∷ rows_in a j ≡ between (start_in a j) (start_in a (j + 1)) a.rows
+  column_is =
+      let some = column_some a j p in
       let e : start_in a (j + 1) - start_in a j ≡ suc (start_in a (j + 1) - (start_in a j + 1)) = omega arith in
       sym (
-      ap₂ (λ m xs. take m xs) e (drop_more a.rows (start_in a j) 0 (omega (arith, column-ends a j p)))
+      ap₂ (λ m xs. take m xs) e (drop_more a.rows (start_in a j) 0 (omega (arith, column_ends a j p)))
       ∙ ap (λ x. x ∷ rows_in a j) (head a j p)
       )
 
@@ -129,17 +129,17 @@ find a keeps i j = elim (cases_lt 0 j) [
     within p =
         let S = start_in a j in
         let T = start_in a (j + 1) in
-        let long = column-length a j p in
-        let some = column-some a j p in
+        let long = column_length a j p in
+        let some = column_some a j p in
         elim (seek (between S T a.rows) i) [
           | inl f ↦
               (let more : S + f.0 < T = omega (arith, f.1) in
-              inl (S + f.0, record { column = p; low = omega arith; high = more; row = sym (column-at a j p f.0 more) ∙ f.2 }))
+              inl (S + f.0, record { column = p; low = omega arith; high = more; row = sym (column_at a j p f.0 more) ∙ f.2 }))
           | inr none ↦ inr (λ q t.
               let low = t.low in
               let high = t.high in
               let e : S + (q - S) ≡ q = omega arith in
-              none (q - S) (omega arith) (column-at a j p (q - S) (omega arith) ∙ ap (row_at a) e ∙ t.row))
+              none (q - S) (omega arith) (column_at a j p (q - S) (omega arith) ∙ ap (row_at a) e ∙ t.row))
         ]
 
 module _ (a : Arrays) (i j : ℕ) where
@@ -153,13 +153,13 @@ module _ (a : Arrays) (i j : ℕ) where
       let p = t.column in
       let low = t.low in
       let high = t.high in
-      let long = column-length a j p in
+      let long = column_length a j p in
       let e : S + (q - S) ≡ q = omega arith in
       inside p
-      ∙ ap (λ xs. index_from S xs i) (column-is a j p)
-      ∙ index-found (between S T a.rows) S i (q - S)
-      (λ x y l h. omega (arith, column-at a j p x (omega arith), column-at a j p y (omega arith), rising a j p (S + x) (S + y) (omega arith) (omega arith) (omega arith)))
-      (omega arith) (column-at a j p (q - S) (omega arith) ∙ ap (row_at a) e ∙ t.row)
+      ∙ ap (λ xs. index_from S xs i) (column_is a j p)
+      ∙ index_found (between S T a.rows) S i (q - S)
+      (λ x y l h. omega (arith, column_at a j p x (omega arith), column_at a j p y (omega arith), rising a j p (S + x) (S + y) (omega arith) (omega arith) (omega arith)))
+      (omega arith) (column_at a j p (q - S) (omega arith) ∙ ap (row_at a) e ∙ t.row)
       ∙ ap (λ x. Some x) e
 
   pub place_none : Keeps a → ((q : ℕ) → Place a i j q → ⊥) → place_at a i j ≡ None
@@ -171,10 +171,10 @@ module _ (a : Arrays) (i j : ℕ) where
         let S = start_in a j in
         let T = start_in a (j + 1) in
         inside p
-        ∙ ap (λ xs. index_from S xs i) (column-is a j p)
-        ∙ index-none (between S T a.rows) S i (λ k h e.
-        let more : S + k < T = omega (arith, column-length a j p) in
-        none (S + k) (record { column = p; low = omega arith; high = more; row = sym (column-at a j p k more) ∙ e })))
+        ∙ ap (λ xs. index_from S xs i) (column_is a j p)
+        ∙ index_none (between S T a.rows) S i (λ k h e.
+        let more : S + k < T = omega (arith, column_length a j p) in
+        none (S + k) (record { column = p; low = omega arith; high = more; row = sym (column_at a j p k more) ∙ e })))
   ]
 
 module _ {X : Type 0} (e : X) (a : Arrays) (w : List X) (i j : ℕ) where
@@ -185,25 +185,25 @@ module _ {X : Type 0} (e : X) (a : Arrays) (w : List X) (i j : ℕ) where
   no_place keeps none = ap (number_at e w) (place_none a i j keeps none)
 
 -- a read of a table at the diagonal of column k
-pub pivot-read : {X : Type 0} (e : X) (a : Arrays) (k : ℕ) (w : List X) (start : ℕ) (x : X) → Position a k → start ≡ start_in a k
+pub pivot_read : {X : Type 0} (e : X) (a : Arrays) (k : ℕ) (w : List X) (start : ℕ) (x : X) → Position a k → start ≡ start_in a k
     → start < length w → x ≡ get_or w start x → x ≡ matrix_of e a w k k
-pivot-read e a k w start x p is h read =
+pivot_read e a k w start x p is h read =
     get_or_read w start x h read e ∙ ap (λ q. get_or w q e) is ∙ sym (at_place e a w k k (start_in a k) (diagonal a k p))
 
 -- ---- columns close
 
-among-from : (xs : List ℕ) (m i k : ℕ) → k < m → k < length xs → get_or xs k 0 ≡ i → among_rows xs m i ≡ true
-among-from [] m i k l h e = absurd (omega (arith, h))
-among-from (x ∷ xs) zero i k l h e = absurd (omega (arith, l))
-among-from (x ∷ xs) (suc m) i zero l h e = or_left (eqb x i) (among_rows xs m i) (eq-eqb x i e)
-among-from (x ∷ xs) (suc m) i (suc k) l h e = or_right (eqb x i) (among_rows xs m i) (among-from xs m i k (omega arith) (omega arith) e)
+among_from : (xs : List ℕ) (m i k : ℕ) → k < m → k < length xs → get_or xs k 0 ≡ i → among_rows xs m i ≡ true
+among_from [] m i k l h e = absurd (omega (arith, h))
+among_from (x ∷ xs) zero i k l h e = absurd (omega (arith, l))
+among_from (x ∷ xs) (suc m) i zero l h e = or_left (eqb x i) (among_rows xs m i) (eq-eqb x i e)
+among_from (x ∷ xs) (suc m) i (suc k) l h e = or_right (eqb x i) (among_rows xs m i) (among_from xs m i k (omega arith) (omega arith) e)
 
-among-some : (xs : List ℕ) (m i : ℕ) → among_rows xs m i ≡ true → (k : ℕ) × (k < m) × (get_or xs k 0 ≡ i)
-among-some [] m i h = absurd (both_ways false refl h)
-among-some (x ∷ xs) zero i h = absurd (both_ways false refl h)
-among-some (x ∷ xs) (suc m) i h = elim (or_cases (eqb x i) (among_rows xs m i) h) [
+among_some : (xs : List ℕ) (m i : ℕ) → among_rows xs m i ≡ true → (k : ℕ) × (k < m) × (get_or xs k 0 ≡ i)
+among_some [] m i h = absurd (both_ways false refl h)
+among_some (x ∷ xs) zero i h = absurd (both_ways false refl h)
+among_some (x ∷ xs) (suc m) i h = elim (or_cases (eqb x i) (among_rows xs m i) h) [
   | inl e ↦ (0, omega arith, eqb-true x i e)
-  | inr e ↦ (let f = among-some xs m i e in (suc f.0, omega (arith, f.1), f.2))
+  | inr e ↦ (let f = among_some xs m i e in (suc f.0, omega (arith, f.1), f.2))
 ]
 
 any_here : (test : ℕ → Bool) (m k : ℕ) → k < m → test k ≡ true → any_below test m ≡ true
@@ -217,19 +217,19 @@ module _ (a : Arrays) (i k : ℕ) (p : Position a k) where
   past_is : get_or a.starts (k - 1 + 1) 0 ≡ start_in a (k + 1)
   past_is = let e : k - 1 + 1 ≡ k + 1 - 1 = omega (arith, p.low) in ap (λ x. get_or a.starts x 0) e
 
-  place-holds : (q : ℕ) → Place a i k q → holds a.starts a.rows (k - 1) i ≡ true
-  place-holds q t =
+  place_holds : (q : ℕ) → Place a i k q → holds a.starts a.rows (k - 1) i ≡ true
+  place_holds q t =
       let S = start_in a k in
       let low = t.low in
       let high = t.high in
       let e : S + (q - S) ≡ q = omega arith in
-      among-from (drop S a.rows) (get_or a.starts (k - 1 + 1) 0 - S) i (q - S) (omega (arith, past_is))
-      (omega (arith, length-drop S a.rows, column-ends a k p)) (get_or-drop S a.rows (q - S) 0 ∙ ap (row_at a) e ∙ t.row)
+      among_from (drop S a.rows) (get_or a.starts (k - 1 + 1) 0 - S) i (q - S) (omega (arith, past_is))
+      (omega (arith, length-drop S a.rows, column_ends a k p)) (get_or-drop S a.rows (q - S) 0 ∙ ap (row_at a) e ∙ t.row)
 
-  holds-place : holds a.starts a.rows (k - 1) i ≡ true → (q : ℕ) × Place a i k q
-  holds-place h =
+  holds_place : holds a.starts a.rows (k - 1) i ≡ true → (q : ℕ) × Place a i k q
+  holds_place h =
       let S = start_in a k in
-      let f = among-some (drop S a.rows) (get_or a.starts (k - 1 + 1) 0 - S) i h in
+      let f = among_some (drop S a.rows) (get_or a.starts (k - 1 + 1) 0 - S) i h in
       (S + f.0, record { column = p; low = omega arith; high = omega (arith, f.1, past_is); row = sym (get_or-drop S a.rows f.0 0) ∙ f.2 })
 
 -- of two rows below the diagonal of one column, the later is in the column of the earlier
@@ -238,13 +238,13 @@ pub closing : (a : Arrays) (k : ℕ) → Position a k → (q t : ℕ) → start_
 closing a k p q t l h u =
     let i = row_at a t in
     let j = row_at a q in
-    let here = row-position a k p q l (omega arith) in
-    let past = row-past a k p q l (omega arith) in
+    let here = row_position a k p q l (omega arith) in
+    let past = row_past a k p q l (omega arith) in
     let rise = rising a k p q t (omega arith) h u in
     let both : ℕ → Bool = λ c. holds a.starts a.rows c (j - 1 + 1) && holds a.starts a.rows c i in
-    let j-is : j ≡ j - 1 + 1 = omega arith in
-    let in-q = place-holds a (j - 1 + 1) k p q (record { column = p; low = omega arith; high = omega arith; row = j-is }) in
-    let in-t = place-holds a i k p t (record { column = p; low = omega arith; high = u; row = refl }) in
+    let j_is : j ≡ j - 1 + 1 = omega arith in
+    let in_q = place_holds a (j - 1 + 1) k p q (record { column = p; low = omega arith; high = omega arith; row = j_is }) in
+    let in_t = place_holds a i k p t (record { column = p; low = omega arith; high = u; row = refl }) in
     let fact = p.keeps.closed (j - 1) i (omega (arith, here.high), omega arith) in
-    holds-place a i j here
-    (fact ∙ or_right (on_sheet a.starts a.rows a.links (j - 1) i) (any_below both (j - 1)) (any_here both (j - 1) (k - 1) (omega (arith, p.low)) (and_from _ _ in-q in-t)))
+    holds_place a i j here
+    (fact ∙ or_right (on_sheet a.starts a.rows a.links (j - 1) i) (any_below both (j - 1)) (any_here both (j - 1) (k - 1) (omega (arith, p.low)) (and_from _ _ in_q in_t)))

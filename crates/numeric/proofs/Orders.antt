@@ -15,12 +15,12 @@ use Rattle.numeric.specs.Calls.{all_fit, Solves}
 use Rattle.numeric.specs.Positions.{Position, HasLabel}
 
 module _ (a : Arrays) (k : ℕ) (p : Position a k) where
-  pub label-some : (0 < label_in a k) × (label_in a k ≤ size_in a)
-  label-some = let r = p.keeps.ranked (k - 1) (omega (arith, p.low, p.high)) in (r.0, r.1)
+  pub label_some : (0 < label_in a k) × (label_in a k ≤ size_in a)
+  label_some = let r = p.keeps.ranked (k - 1) (omega (arith, p.low, p.high)) in (r.0, r.1)
 
   -- the order of the plan, as it is lent
-  pub has-label : (order : List ℕ) → order ≡ a.order → HasLabel order k
-  has-label order is = rw is (p.low, p.high, label-some.0, label-some.1)
+  pub has_label : (order : List ℕ) → order ≡ a.order → HasLabel order k
+  has_label order is = rw is (p.low, p.high, label_some.0, label_some.1)
 
   -- another position has another slot
   slot_apart : (i : ℕ) → Position a i → label_in a i - 1 ≡ label_in a k - 1 → i ≡ k
@@ -29,26 +29,26 @@ module _ (a : Arrays) (k : ℕ) (p : Position a k) where
       let s = p.keeps.ranked (i - 1) (omega (arith, q.low, q.high)) in
       omega (arith, r.2, s.2, ap (λ x. get_or a.positions x 0) same, p.low, q.low)
 
-  module _ {X : Type 0} (e : X) (y : List X) (long : length y ≡ size_in a) (order : List ℕ) (at : ℕ) (order_is : order ≡ a.order) (at-is : at ≡ get_or order (k - 1) 0 - 1) where
+  module _ {X : Type 0} (e : X) (y : List X) (long : length y ≡ size_in a) (order : List ℕ) (at : ℕ) (order_is : order ≡ a.order) (at_is : at ≡ get_or order (k - 1) 0 - 1) where
     slot_is : at ≡ label_in a k - 1
-    slot_is = at-is ∙ ap (λ l. get_or l (k - 1) 0 - 1) order_is
+    slot_is = at_is ∙ ap (λ l. get_or l (k - 1) 0 - 1) order_is
 
-    pub slot-inside : at < length y
-    slot-inside = omega (arith, slot_is, label-some.0, label-some.1)
+    pub slot_inside : at < length y
+    slot_inside = omega (arith, slot_is, label_some.0, label_some.1)
 
     pub slot_read : (x : X) → x ≡ get_or y at x → x ≡ by_position e (site_of a) y k
-    slot_read x read = get_or_read y at x slot-inside read e ∙ ap (λ q. get_or y q e) slot_is
+    slot_read x read = get_or_read y at x slot_inside read e ∙ ap (λ q. get_or y q e) slot_is
 
-    pub slot-set : (v : X) → by_position e (site_of a) (set y at v) k ≡ v
-    slot-set v = ap (λ q. get_or (set y at v) q e) (sym slot_is) ∙ get_or-set_same y at v e slot-inside
+    pub slot_set : (v : X) → by_position e (site_of a) (set y at v) k ≡ v
+    slot_set v = ap (λ q. get_or (set y at v) q e) (sym slot_is) ∙ get_or-set_same y at v e slot_inside
 
     pub slot_kept : (v : X) (i : ℕ) → Position a i → (i ≡ k → ⊥) → by_position e (site_of a) (set y at v) i ≡ by_position e (site_of a) y i
     slot_kept v i q ne = get_or-set_other y at (label_in a i - 1) v e (λ same. ne (slot_apart i q (same ∙ slot_is)))
 
 -- a table by label lists its numbers by position
-by-label : {X : Type 0} (e : X) (a : Arrays) (y : List X) (v : Vector X) → Keeps a → length y ≡ size_in a
+by_label_lem : {X : Type 0} (e : X) (a : Arrays) (y : List X) (v : Vector X) → Keeps a → length y ≡ size_in a
     → ((i : ℕ) → 0 < i → i ≤ size_in a → by_position e (site_of a) y i ≡ v i) → y ≡ by_label (site_of a) v
-by-label e a y v keeps long is =
+by_label_lem e a y v keeps long is =
     let n = size_in a in
     let f : ℕ → _ = λ l. v (position_in a l) in
     ext_get_or e y (map f (range_with_len 1 n)) (omega (arith, length-map-range_with_len f 1 n)) (λ l h.
@@ -71,5 +71,5 @@ solves s a worked right before after keeps worked-long right-long before-long lo
     let fit : all_fit a worked right before ≡ true = and_from _ _ (eq-eqb _ _ worked-long) (and_from _ _ (eq-eqb _ _ right-long) (eq-eqb _ _ before-long)) in
     record {
       answer = sym (cond-true (all_fit a worked right before) (Ok tt) (Err WrongLength) fit);
-      table = by-label s.base.nothing a after _ keeps long is ∙ sym (cond-true (all_fit a worked right before) _ before fit);
+      table = by_label_lem s.base.nothing a after _ keeps long is ∙ sym (cond-true (all_fit a worked right before) _ before fit);
     }

@@ -9,7 +9,7 @@ use Rattle.square.specs.Elimination.{reduced, stepped, eliminated}
 use Rattle.square.specs.Plans.{matrix_of}
 use Rattle.square.specs.Squares.{Matrix}
 use Rattle.numeric.specs.Positions.{Position}
-use Rattle.numeric.proofs.Layouts.{pivot-read}
+use Rattle.numeric.proofs.Layouts.{pivot_read}
 
 module _ {X : Type 0} (o : Operations X) (m : Matrix X) where
   -- after a step that sticks nothing moves
@@ -25,8 +25,8 @@ module _ {X : Type 0} (o : Operations X) (m : Matrix X) where
         let same : k ≡ suc (k - 1) = omega arith in
         ap (eliminated o m) same ∙ ap (λ u. stepped o (suc (k - 1)) u.numbers u.stuck) run ∙ ap (λ x. stepped o x w None) (sym same)
 
-    pub run-stuck : (n : ℕ) → k ≤ n → (o.judged (w k k) ≡ 0 → ⊥) → eliminated o m n ≡ record { numbers = w; stuck = Some (k, o.judged (w k k)) }
-    run-stuck n h bad = stays w (k, o.judged (w k k)) k (n - k) n (omega arith) (step ∙ cond-false (eqb (o.judged (w k k)) 0) _ _ (ne_eqb _ 0 bad))
+    pub run_stuck : (n : ℕ) → k ≤ n → (o.judged (w k k) ≡ 0 → ⊥) → eliminated o m n ≡ record { numbers = w; stuck = Some (k, o.judged (w k k)) }
+    run_stuck n h bad = stays w (k, o.judged (w k k)) k (n - k) n (omega arith) (step ∙ cond-false (eqb (o.judged (w k k)) 0) _ _ (ne_eqb _ 0 bad))
 
 -- the step of k on a table whose diagonal is a pivot
 pub run_more : {X : Type 0} (o : Operations X) (a : Arrays) (entered w : List X) (k : ℕ) (p : Position a k)
@@ -38,6 +38,6 @@ run_more o a entered w k p run start x v start_is h read cause cause-is good is 
     let m = matrix_of o.nothing a entered in
     let u = matrix_of o.nothing a w in
     let same : k + 1 - 1 ≡ k = omega arith in
-    let pivot : o.judged (u k k) ≡ 0 = ap o.judged (sym (pivot-read o.nothing a k w start x p start_is h read)) ∙ sym cause-is ∙ good in
+    let pivot : o.judged (u k k) ≡ 0 = ap o.judged (sym (pivot_read o.nothing a k w start x p start_is h read)) ∙ sym cause-is ∙ good in
     ap (eliminated o m) same ∙ step o m k u p.low run ∙ cond-true (eqb (o.judged (u k k)) 0) _ _ (eq-eqb _ 0 pivot)
     ∙ ap (λ (z : Matrix _). record { numbers = z; stuck = None }) (sym (fun_ext (λ i. fun_ext (λ j. is i j))))

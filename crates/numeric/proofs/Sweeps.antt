@@ -9,7 +9,7 @@ use Rattle.square.specs.Plans.{matrix_of}
 use Rattle.square.specs.Squares.{Matrix}
 use Rattle.numeric.specs.Positions.{Position}
 use Rattle.numeric.specs.Updates.{Updated}
-use Rattle.numeric.proofs.Layouts.{Place, row_at, same-column, find, at_place, no_place, diagonal, head, rising, row-past, row-position, target_past, closing}
+use Rattle.numeric.proofs.Layouts.{Place, row_at, same_column, find, at_place, no_place, diagonal, head, rising, row_past, row_position, target_past, closing}
 
 -- p is the place of a row in column k, below `limit`, b that of a row no earlier, and q that of the row of b in the column of the row of p
 pub record Crosses (a : Arrays) (k limit p b q : ℕ) : Type 0 where
@@ -28,29 +28,29 @@ pub record Swept {X : Type 0} (o : Operations X) (a : Arrays) (k limit : ℕ) (b
   pub missed : (q : ℕ) → ((p b : ℕ) → Crosses a k limit p b q → ⊥) → get_or after q o.nothing ≡ get_or before q o.nothing
 
 module _ {X : Type 0} (o : Operations X) (a : Arrays) (k : ℕ) (column : Position a k) where
-  pub sweep-none : (before : List X) → Swept o a k (start_in a k + 1) before before
-  sweep-none before = record {
+  pub sweep_none : (before : List X) → Swept o a k (start_in a k + 1) before before
+  sweep_none before = record {
     met = λ p b q x. absurd (omega (arith, x.below, x.early));
     missed = λ q x. refl;
   }
 
   -- one target more
-  pub sweep-more : (p : ℕ) (before now next : List X) → start_in a k < p → p < start_in a (k + 1) → Swept o a k p before now
+  pub sweep_more : (p : ℕ) (before now next : List X) → start_in a k < p → p < start_in a (k + 1) → Swept o a k p before now
       → Updated o a.rows (start_in a k) p (start_in a (k + 1)) (start_in a (row_at a p)) (start_in a (row_at a p + 1)) now next
       → Swept o a k (p + 1) before next
-  sweep-more p before now next low high inv u = record {
+  sweep_more p before now next low high inv u = record {
     met = λ s b q x. elim (cases_eq s p) [
       | inl e ↦
-          (let row-e = ap (row_at a) e in
-          let low-e = ap (start_in a) row-e in
-          let high-e = ap (λ z. start_in a (z + 1)) row-e in
-          let q-low : start_in a (row_at a p) ≤ q = omega (arith, x.low) in
-          let q-high : q < start_in a (row_at a p + 1) = omega (arith, x.high) in
-          let got = u.met b q (omega (arith, x.after), x.inside, q-low, q-high, x.row) in
-          let old = inv.missed q (λ s' b' y. other s' b' q y q-low q-high) in
-          let old-b = kept b (omega (arith, x.after)) x.inside in
-          let old-d = kept (start_in a k) (omega arith) (omega arith) in
-          let old-s = kept p (omega arith) high in
+          (let row_e = ap (row_at a) e in
+          let low_e = ap (start_in a) row_e in
+          let high_e = ap (λ z. start_in a (z + 1)) row_e in
+          let q_low : start_in a (row_at a p) ≤ q = omega (arith, x.low) in
+          let q_high : q < start_in a (row_at a p + 1) = omega (arith, x.high) in
+          let got = u.met b q (omega (arith, x.after), x.inside, q_low, q_high, x.row) in
+          let old = inv.missed q (λ s' b' y. other s' b' q y q_low q_high) in
+          let old_b = kept b (omega (arith, x.after)) x.inside in
+          let old_d = kept (start_in a k) (omega arith) (omega arith) in
+          let old_s = kept p (omega arith) high in
           cc)
       | inr ne ↦
           (let y : Crosses a k p s b q = record { below = x.below; early = omega (arith, x.early); after = x.after; inside = x.inside; low = x.low; high = x.high; row = x.row } in
@@ -65,9 +65,9 @@ module _ {X : Type 0} (o : Operations X) (a : Arrays) (k : ℕ) (column : Positi
       other : (s b q : ℕ) → Crosses a k p s b q → start_in a (row_at a p) ≤ q → q < start_in a (row_at a p + 1) → ⊥
       other s b q x l h =
           let early = x.early in
-          let here = row-position a k column s x.below (omega arith) in
-          let there = row-position a k column p low high in
-          let same = same-column a (row_at a s) (row_at a p) q here there x.low x.high l h in
+          let here = row_position a k column s x.below (omega arith) in
+          let there = row_position a k column p low high in
+          let same = same_column a (row_at a s) (row_at a p) q here there x.low x.high l h in
           omega (arith, rising a k column s p (omega (arith, x.below)) early high)
 
       -- column k itself stays
@@ -87,12 +87,12 @@ module _ {X : Type 0} (o : Operations X) (a : Arrays) (k : ℕ) (column : Positi
     ]
 
     -- what crosses at the place of (i, j) are the places of (j, k) and (i, k)
-    crossing-row : (p b q : ℕ) → Place a i j q → Crosses a k (start_in a (k + 1)) p b q → row_at a p ≡ j
-    crossing-row p b q t x = same-column a (row_at a p) j q (row-position a k column p x.below x.early) t.column x.low x.high t.low t.high
+    crossing_row : (p b q : ℕ) → Place a i j q → Crosses a k (start_in a (k + 1)) p b q → row_at a p ≡ j
+    crossing_row p b q t x = same_column a (row_at a p) j q (row_position a k column p x.below x.early) t.column x.low x.high t.low t.high
 
     -- no later row of a column is less
-    rows-rise : (p b : ℕ) → start_in a k ≤ p → p ≤ b → b < start_in a (k + 1) → row_at a p ≤ row_at a b
-    rows-rise p b l h r = elim (cases_eq p b) [
+    rows_rise : (p b : ℕ) → start_in a k ≤ p → p ≤ b → b < start_in a (k + 1) → row_at a p ≤ row_at a b
+    rows_rise p b l h r = elim (cases_eq p b) [
       | inl e ↦ omega (arith, ap (row_at a) e)
       | inr ne ↦ omega (arith, rising a k column p b l (omega arith) r)
     ]
@@ -101,10 +101,10 @@ module _ {X : Type 0} (o : Operations X) (a : Arrays) (k : ℕ) (column : Positi
     aside no' = stays (λ p b q t x.
         let below = x.below in
         let after = x.after in
-        let row-p = crossing-row p b q t x in
-        let row-b = x.row ∙ t.row in
-        let l = row-past a k column p below x.early in
-        let r = rows-rise p b (omega arith) after x.inside in
+        let row_p = crossing_row p b q t x in
+        let row_b = x.row ∙ t.row in
+        let l = row_past a k column p below x.early in
+        let r = rows_rise p b (omega arith) after x.inside in
         both_ways (ltb k j && leb j i) no' (and_from (ltb k j) (leb j i) (lt-ltb k j (omega arith)) (le-leb j i (omega arith))))
 
     both : (p b : ℕ) → k < j → j ≤ i → Place a j k p → Place a i k b → matrix_of o.nothing a after i j ≡ o.updated (M i j) (M i k) (M k k) (M j k)
@@ -120,29 +120,29 @@ module _ {X : Type 0} (o : Operations X) (a : Arrays) (k : ℕ) (column : Positi
         elim (find a column.keeps i j) [
           | inl f ↦
               (let q = f.0 in
-              let row-p = s.row in
-              let row-b = r.row in
-              let row-q = f.1.row in
+              let row_p = s.row in
+              let row_b = r.row in
+              let row_q = f.1.row in
               let x : Crosses a k (start_in a (k + 1)) p b q = record {
                 below = below;
                 early = s.high;
                 after = order;
                 inside = r.high;
-                low = omega (arith, f.1.low, ap (start_in a) row-p);
-                high = omega (arith, f.1.high, ap (λ z. start_in a (z + 1)) row-p);
+                low = omega (arith, f.1.low, ap (start_in a) row_p);
+                high = omega (arith, f.1.high, ap (λ z. start_in a (z + 1)) row_p);
                 row = cc;
               } in
               let got = swept.met p b q x in
-              let after-q = at_place o.nothing a after i j q f.1 in
-              let before-q = at_place o.nothing a before i j q f.1 in
-              let before-b = at_place o.nothing a before i k b r in
-              let before-d = at_place o.nothing a before k k (start_in a k) (diagonal a k column) in
-              let before-p = at_place o.nothing a before j k p s in
+              let after_q = at_place o.nothing a after i j q f.1 in
+              let before_q = at_place o.nothing a before i j q f.1 in
+              let before_b = at_place o.nothing a before i k b r in
+              let before_d = at_place o.nothing a before k k (start_in a k) (diagonal a k column) in
+              let before_p = at_place o.nothing a before j k p s in
               cc)
           | inr no' ↦ absurd (elim (cases_eq p b) [
             | inl e ↦
                 (let same : i ≡ j = sym r.row ∙ ap (row_at a) (sym e) ∙ s.row in
-                let here : Position a j = rw s.row at (row-position a k column p below s.high) in
+                let here : Position a j = rw s.row at (row_position a k column p below s.high) in
                 let d = diagonal a j here in
                 no' (start_in a j) (record { column = here; low = d.low; high = d.high; row = d.row ∙ sym same }))
             | inr ne ↦
@@ -154,7 +154,7 @@ module _ {X : Type 0} (o : Operations X) (a : Arrays) (k : ℕ) (column : Positi
     later : k < j → j ≤ i → matrix_of o.nothing a after i j ≡ o.updated (M i j) (M i k) (M k k) (M j k)
     later l h = elim (find a column.keeps j k) [
       | inr no' ↦
-          stays (λ p b q t x. no' p (record { column = column; low = omega (arith, x.below); high = x.early; row = crossing-row p b q t x }))
+          stays (λ p b q t x. no' p (record { column = column; low = omega (arith, x.below); high = x.early; row = crossing_row p b q t x }))
           ∙ sym (ap (o.updated (M i j) (M i k) (M k k)) (no_place o.nothing a before j k column.keeps no') ∙ column-law (M i j) (M i k) (M k k))
       | inl f ↦ elim (find a column.keeps i k) [
         | inr no' ↦

@@ -26,8 +26,8 @@ module _ {X : Type 0} (o : Operations X) (rows : List ℕ) (source past target s
   module _ (sources : Ascends rows source past) (targets : Ascends rows target stop) (at next : ℕ) (now : List X)
       (inv : Walked o rows source past target stop before at next now) (low : target ≤ at) (high : at < stop) where
     -- the target at `at` meets no source
-    pub walk-past : ((p : ℕ) → (next ≤ p) × (p < past) → get_or rows at 0 < get_or rows p 0) → Walked o rows source past target stop before (at + 1) next now
-    walk-past later = record {
+    pub walk_past : ((p : ℕ) → (next ≤ p) × (p < past) → get_or rows at 0 < get_or rows p 0) → Walked o rows source past target stop before (at + 1) next now
+    walk_past later = record {
       low = inv.low;
       high = inv.high;
       done = record {
@@ -51,13 +51,13 @@ module _ {X : Type 0} (o : Operations X) (rows : List ℕ) (source past target s
         ]
 
     -- all sources are met
-    pub walk-rest : past ≤ next → Walked o rows source past target stop before (at + 1) next now
-    walk-rest h = walk-past (λ p m. absurd (omega arith))
+    pub walk_rest : past ≤ next → Walked o rows source past target stop before (at + 1) next now
+    walk_rest h = walk_past (λ p m. absurd (omega arith))
 
     -- the source at `next` has a later row
-    pub walk-skip : Contained rows source past target stop → next < past → (get_or rows at 0 ≡ get_or rows next 0 → ⊥)
+    pub walk_skip : Contained rows source past target stop → next < past → (get_or rows at 0 ≡ get_or rows next 0 → ⊥)
         → Walked o rows source past target stop before (at + 1) next now
-    walk-skip contained h ne = walk-past (λ p m. elim (cases_eq p next) [
+    walk_skip contained h ne = walk_past (λ p m. elim (cases_eq p next) [
       | inl e ↦ omega (arith, here, ap (λ x. get_or rows x 0) e)
       | inr other ↦ (let f = sources next p (inv.low, omega arith, m.1) in omega (arith, here))
     ])
@@ -71,16 +71,16 @@ module _ {X : Type 0} (o : Operations X) (rows : List ℕ) (source past target s
             ]
 
     -- the target at `at` meets the source at `next`
-    pub walk-meet : (y : X) → next < past → past ≤ target → stop ≤ length now → get_or rows at 0 ≡ get_or rows next 0
+    pub walk_meet : (y : X) → next < past → past ≤ target → stop ≤ length now → get_or rows at 0 ≡ get_or rows next 0
         → y ≡ o.updated (get_or now at o.nothing) (get_or now next o.nothing) (get_or before 0 o.nothing) (get_or before source o.nothing)
         → Walked o rows source past target stop before (at + 1) (next + 1) (set now at y)
-    walk-meet y h apart fits same is = record {
+    walk_meet y h apart fits same is = record {
       low = omega (arith, inv.low);
       high = omega arith;
       done = record {
         met = λ p q m. elim (cases_eq q at) [
           | inl e ↦
-              (let p-is : p ≡ next = only p m.0 m.1 (m.4 ∙ ap (λ x. get_or rows x 0) e) in
+              (let p_is : p ≡ next = only p m.0 m.1 (m.4 ∙ ap (λ x. get_or rows x 0) e) in
               let value = get_or-set_same now at y o.nothing (omega arith) in
               let old = inv.done.missed at (λ s t. absurd (omega (arith, t.3))) in
               let seen = inv.done.missed next (λ s t. absurd (omega (arith, t.2))) in

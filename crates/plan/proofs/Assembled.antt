@@ -8,21 +8,21 @@ use Rattle.std.proofs.lemmas.Bool.{cases_lt, eqb-true, ne_eqb, and_right, or_fro
 use Rattle.graph.specs.Columns.{in_column, column, places, member, any_below}
 use Rattle.graph.specs.Graphs.{Graph}
 use Rattle.graph.specs.Picking.{Price, picked}
-use Rattle.graph.proofs.Equations.{linked-after}
-use Rattle.graph.proofs.Orders.{member-kept, and_none, counting-within, counting-outside, member-from, member-none}
+use Rattle.graph.proofs.Equations.{linked_after}
+use Rattle.graph.proofs.Orders.{member_kept, and_none, counting_within, counting_outside, member_from, member_none}
 use Rattle.plan.specs.Layout.{Starts, Diagonals, Rises, Within, among_rows, holds, marked, on_sheet, Closed}
 use Rattle.plan.specs.Laid.{laid_rows, laid_starts, laid_marks, sheet_link}
-use Rattle.plan.proofs.Lays.{rows_fit, marks-length}
+use Rattle.plan.proofs.Lays.{rows_fit, marks_length}
 
-joined-split : {X : Type 0} (f : ℕ → List X) (m a d : ℕ) → flat_map f (range_with_len a (m + d)) ≡ flat_map f (range_with_len a m) ++ flat_map f (range_with_len (a + m) d)
-joined-split f zero a d =
+joined_split : {X : Type 0} (f : ℕ → List X) (m a d : ℕ) → flat_map f (range_with_len a (m + d)) ≡ flat_map f (range_with_len a m) ++ flat_map f (range_with_len (a + m) d)
+joined_split f zero a d =
     let e : 0 + d ≡ d = omega arith in
     let e' : a ≡ a + 0 = omega arith in
     ap₂ (λ x y. flat_map f (range_with_len y x)) e e'
-joined-split f (suc m) a d =
+joined_split f (suc m) a d =
     let e : suc m + d ≡ suc (m + d) = omega arith in
     let e' : a + 1 + m ≡ a + suc m = omega arith in
-    ap (λ x. flat_map f (range_with_len a x)) e ∙ ap (λ ls. f a ++ ls) (joined-split f m (a + 1) d)
+    ap (λ x. flat_map f (range_with_len a x)) e ∙ ap (λ ls. f a ++ ls) (joined_split f m (a + 1) d)
     ∙ ap (λ x. f a ++ (flat_map f (range_with_len (a + 1) m) ++ flat_map f (range_with_len x d))) e'
     ∙ sym (append_assoc (f a) (flat_map f (range_with_len (a + 1) m)) (flat_map f (range_with_len (a + suc m) d)))
 
@@ -32,23 +32,23 @@ pub joined_at : {X : Type 0} (f : ℕ → List X) (n k : ℕ) → k < n
 joined_at f n k h =
     let e : n ≡ k + suc (n - (k + 1)) = omega arith in
     let e' : 1 + k ≡ k + 1 = omega arith in
-    ap (λ x. flat_map f (range_with_len 1 x)) e ∙ joined-split f k 1 (suc (n - (k + 1)))
+    ap (λ x. flat_map f (range_with_len 1 x)) e ∙ joined_split f k 1 (suc (n - (k + 1)))
     ∙ ap (λ x. flat_map f (range_with_len 1 k) ++ flat_map f (range_with_len x (suc (n - (k + 1))))) e'
 
 start_is : (col : ℕ → List ℕ) (n k : ℕ) → k ≤ n → get_or (laid_starts col n) k 0 ≡ length (laid_rows col k)
 start_is col n k h = get_or-map-range_with_len (λ m. length (laid_rows col m)) 0 (n + 1) k k 0 (omega arith) (omega arith)
 
-pub starts-stand : (col : ℕ → List ℕ) (n : ℕ) → Starts n (laid_starts col n) (laid_rows col n)
-starts-stand col n = (
+pub starts_stand : (col : ℕ → List ℕ) (n : ℕ) → Starts n (laid_starts col n) (laid_rows col n)
+starts_stand col n = (
   start_is col n 0 (omega arith),
   start_is col n n (omega arith),
   λ k h. omega (arith, start_is col n k (omega arith), start_is col n (k + 1) (omega arith), rows_fit col (k + 1) k (omega arith)),
 )
 
 -- the part of the rows that is column k + 1
-pub part-is : (col : ℕ → List ℕ) (n k : ℕ) → k < n
+pub part_is : (col : ℕ → List ℕ) (n k : ℕ) → k < n
     → drop (get_or (laid_starts col n) k 0) (laid_rows col n) ≡ ((k + 1) ∷ col (k + 1)) ++ flat_map (λ j. j ∷ col j) (range_with_len (k + 1 + 1) (n - (k + 1)))
-part-is col n k h =
+part_is col n k h =
     ap (drop (get_or (laid_starts col n) k 0)) (joined_at (λ j. j ∷ col j) n k h)
     ∙ drop_at (laid_rows col k) _ (get_or (laid_starts col n) k 0) (sym (start_is col n k (omega arith)))
 
@@ -65,32 +65,32 @@ part_length col n k h =
     omega arith)) in
     omega (arith, start_is col n k (omega arith), start_is col n (k + 1) (omega arith))
 
-pub diagonals-stand : (col : ℕ → List ℕ) (n : ℕ) → Diagonals n (laid_starts col n) (laid_rows col n)
-diagonals-stand col n k h =
+pub diagonals_stand : (col : ℕ → List ℕ) (n : ℕ) → Diagonals n (laid_starts col n) (laid_rows col n)
+diagonals_stand col n k h =
     let e : get_or (laid_starts col n) k 0 ≡ get_or (laid_starts col n) k 0 + 0 = omega arith in
     ap (λ x. get_or (laid_rows col n) x 0) e ∙ sym (get_or-drop (get_or (laid_starts col n) k 0) (laid_rows col n) 0 0)
-    ∙ ap (λ ls. get_or ls 0 0) (part-is col n k h)
+    ∙ ap (λ ls. get_or ls 0 0) (part_is col n k h)
 
 -- a column ascends from its diagonal on
-rises-step : (test : ℕ → Bool) (s m x : ℕ) → x < s
+rises_step : (test : ℕ → Bool) (s m x : ℕ) → x < s
     → ((y : ℕ) → y < s + 1 → (q : ℕ) → suc q < length (y ∷ filter test (range_with_len (s + 1) m)) → get_or (y ∷ filter test (range_with_len (s + 1) m)) q 0 < get_or (y ∷ filter test (range_with_len (s + 1) m)) (suc q) 0)
     → (t : Bool) (q : ℕ) → suc q < length (x ∷ cond t (s ∷ filter test (range_with_len (s + 1) m)) (filter test (range_with_len (s + 1) m)))
     → get_or (x ∷ cond t (s ∷ filter test (range_with_len (s + 1) m)) (filter test (range_with_len (s + 1) m))) q 0
     < get_or (x ∷ cond t (s ∷ filter test (range_with_len (s + 1) m)) (filter test (range_with_len (s + 1) m))) (suc q) 0
-rises-step test s m x l h true zero q = l
-rises-step test s m x l h true (suc p) q = h s (omega arith) p (omega arith)
-rises-step test s m x l h false p q = h x (omega arith) p q
+rises_step test s m x l h true zero q = l
+rises_step test s m x l h true (suc p) q = h s (omega arith) p (omega arith)
+rises_step test s m x l h false p q = h x (omega arith) p q
 
-kept-rises : (test : ℕ → Bool) (m s x : ℕ) → x < s → (q : ℕ) → suc q < length (x ∷ filter test (range_with_len s m))
+kept_rises : (test : ℕ → Bool) (m s x : ℕ) → x < s → (q : ℕ) → suc q < length (x ∷ filter test (range_with_len s m))
     → get_or (x ∷ filter test (range_with_len s m)) q 0 < get_or (x ∷ filter test (range_with_len s m)) (suc q) 0
-kept-rises test zero s x l q h = absurd (omega (arith, h))
-kept-rises test (suc m) s x l q h = rises-step test s m x l (λ y z p w. kept-rises test m (s + 1) y z p w) (test s) q h
+kept_rises test zero s x l q h = absurd (omega (arith, h))
+kept_rises test (suc m) s x l q h = rises_step test s m x l (λ y z p w. kept_rises test m (s + 1) y z p w) (test s) q h
 
 abbrev chosen : ℕ → (ℕ → ℕ → Bool) → ℕ → List ℕ
 chosen n test k = filter (test k) (range_with_len (k + 1) (n - k))
 
-pub rises-stand : (n : ℕ) (test : ℕ → ℕ → Bool) → Rises n (laid_starts (chosen n test) n) (laid_rows (chosen n test) n)
-rises-stand n test k p h b =
+pub rises_stand : (n : ℕ) (test : ℕ → ℕ → Bool) → Rises n (laid_starts (chosen n test) n) (laid_rows (chosen n test) n)
+rises_stand n test k p h b =
     let col = chosen n test in
     let s = get_or (laid_starts col n) k 0 in
     let q = p - s in
@@ -98,7 +98,7 @@ rises-stand n test k p h b =
     let e' : p + 1 ≡ s + suc (p - s) = omega (arith, b.0) in
     let len : suc (p - s) < length ((k + 1) ∷ col (k + 1)) = omega (arith, part_length col n k h, b.0, b.1) in
     let at : (i : ℕ) → i < length ((k + 1) ∷ col (k + 1)) → get_or (laid_rows col n) (s + i) 0 ≡ get_or ((k + 1) ∷ col (k + 1)) i 0 =
-    λ i l. sym (get_or-drop s (laid_rows col n) i 0) ∙ ap (λ ls. get_or ls i 0) (part-is col n k h)
+    λ i l. sym (get_or-drop s (laid_rows col n) i 0) ∙ ap (λ ls. get_or ls i 0) (part_is col n k h)
     ∙ get_or_append_left ((k + 1) ∷ col (k + 1)) (flat_map (λ j. j ∷ col j) (range_with_len (k + 1 + 1) (n - (k + 1)))) 0 i l in
     omega (
       arith,
@@ -106,32 +106,32 @@ rises-stand n test k p h b =
       ap (λ x. get_or (laid_rows col n) x 0) e',
       at (p - s) (omega arith),
       at (suc (p - s)) len,
-      kept-rises (test (k + 1)) (n - (k + 1)) (k + 1 + 1) (k + 1) (omega arith) (p - s) len,
+      kept_rises (test (k + 1)) (n - (k + 1)) (k + 1 + 1) (k + 1) (omega arith) (p - s) len,
     )
 
 -- every row is at most n
-all-cond : (n s : ℕ) (ls : List ℕ) (t : Bool) → s ≤ n → All (λ x. x ≤ n) ls → All (λ x. x ≤ n) (cond t (s ∷ ls) ls)
-all-cond n s ls true h a = (h, a)
-all-cond n s ls false h a = a
+all_cond : (n s : ℕ) (ls : List ℕ) (t : Bool) → s ≤ n → All (λ x. x ≤ n) ls → All (λ x. x ≤ n) (cond t (s ∷ ls) ls)
+all_cond n s ls true h a = (h, a)
+all_cond n s ls false h a = a
 
-all-kept : (test : ℕ → Bool) (n m s : ℕ) → s + m ≤ n + 1 → All (λ x. x ≤ n) (filter test (range_with_len s m))
-all-kept test n zero s h = tt
-all-kept test n (suc m) s h = all-cond n s (filter test (range_with_len (s + 1) m)) (test s) (omega arith) (all-kept test n m (s + 1) (omega arith))
+all_kept : (test : ℕ → Bool) (n m s : ℕ) → s + m ≤ n + 1 → All (λ x. x ≤ n) (filter test (range_with_len s m))
+all_kept test n zero s h = tt
+all_kept test n (suc m) s h = all_cond n s (filter test (range_with_len (s + 1) m)) (test s) (omega arith) (all_kept test n m (s + 1) (omega arith))
 
-all-joined : (n : ℕ) (test : ℕ → ℕ → Bool) (m a : ℕ) → a + m ≤ n + 1 → All (λ x. x ≤ n) (flat_map (λ k. k ∷ chosen n test k) (range_with_len a m))
-all-joined n test zero a h = tt
-all-joined n test (suc m) a h =
+all_joined : (n : ℕ) (test : ℕ → ℕ → Bool) (m a : ℕ) → a + m ≤ n + 1 → All (λ x. x ≤ n) (flat_map (λ k. k ∷ chosen n test k) (range_with_len a m))
+all_joined n test zero a h = tt
+all_joined n test (suc m) a h =
     All-append (λ x. x ≤ n) (a ∷ chosen n test a) (flat_map (λ k. k ∷ chosen n test k) (range_with_len (a + 1) m))
-    (omega arith, all-kept (test a) n (n - a) (a + 1) (omega arith)) (all-joined n test m (a + 1) (omega arith))
+    (omega arith, all_kept (test a) n (n - a) (a + 1) (omega arith)) (all_joined n test m (a + 1) (omega arith))
 
-pub within-stands : (n : ℕ) (test : ℕ → ℕ → Bool) → Within n (laid_rows (chosen n test) n)
-within-stands n test p h = All-get_or (λ x. x ≤ n) (laid_rows (chosen n test) n) p 0 h (all-joined n test n 1 (omega arith))
+pub within_stands : (n : ℕ) (test : ℕ → ℕ → Bool) → Within n (laid_rows (chosen n test) n)
+within_stands n test p h = All-get_or (λ x. x ≤ n) (laid_rows (chosen n test) n) p 0 h (all_joined n test n 1 (omega arith))
 
 -- what a column holds
-among-append : (xs ys : List ℕ) (i : ℕ) → among_rows (xs ++ ys) (length xs) i ≡ member i xs
-among-append [] [] i = refl
-among-append [] (y ∷ ys) i = refl
-among-append (x ∷ xs) ys i = ap (λ t. eqb x i || t) (among-append xs ys i)
+among_append : (xs ys : List ℕ) (i : ℕ) → among_rows (xs ++ ys) (length xs) i ≡ member i xs
+among_append [] [] i = refl
+among_append [] (y ∷ ys) i = refl
+among_append (x ∷ xs) ys i = ap (λ t. eqb x i || t) (among_append xs ys i)
 
 marked_step : (f : ℕ → Bool) (x i : ℕ) (m : Bool) (t : Bool) → eqb x i ≡ t → ((t && f x) || (m && f i)) ≡ ((t || m) && f i)
 marked_step f x i m false e = refl
@@ -140,11 +140,11 @@ marked_step f x i true true e = ap (λ y. y || f i) (ap f (eqb-true x i e)) ∙ 
     or_same : (y : Bool) → (y || y) ≡ y
     or_same true = refl
     or_same false = refl
-marked_step f x i false true e = or-none (f x) ∙ ap f (eqb-true x i e)
+marked_step f x i false true e = or_none (f x) ∙ ap f (eqb-true x i e)
   where
-    or-none : (y : Bool) → (y || false) ≡ y
-    or-none true = refl
-    or-none false = refl
+    or_none : (y : Bool) → (y || false) ≡ y
+    or_none true = refl
+    or_none false = refl
 
 marked_append : (f : ℕ → Bool) (xs ys : List ℕ) (cs : List Bool) (i : ℕ) → marked (xs ++ ys) (map f xs ++ cs) (length xs) i ≡ (member i xs && f i)
 marked_append f [] [] cs i = refl
@@ -153,36 +153,36 @@ marked_append f [] (y ∷ ys) (c ∷ cs) i = refl
 marked_append f (x ∷ xs) ys cs i =
     ap (λ t. (eqb x i && f x) || t) (marked_append f xs ys cs i) ∙ marked_step f x i (member i xs) (eqb x i) refl
 
-pub holds-is : (col : ℕ → List ℕ) (n j i : ℕ) → j < n → j + 1 < i → holds (laid_starts col n) (laid_rows col n) j i ≡ member i (col (j + 1))
-holds-is col n j i h l =
-    ap₂ (λ ls m. among_rows ls m i) (part-is col n j h) (part_length col n j h)
-    ∙ among-append ((j + 1) ∷ col (j + 1)) (flat_map (λ j. j ∷ col j) (range_with_len (j + 1 + 1) (n - (j + 1)))) i
+pub holds_is : (col : ℕ → List ℕ) (n j i : ℕ) → j < n → j + 1 < i → holds (laid_starts col n) (laid_rows col n) j i ≡ member i (col (j + 1))
+holds_is col n j i h l =
+    ap₂ (λ ls m. among_rows ls m i) (part_is col n j h) (part_length col n j h)
+    ∙ among_append ((j + 1) ∷ col (j + 1)) (flat_map (λ j. j ∷ col j) (range_with_len (j + 1 + 1) (n - (j + 1)))) i
     ∙ ap (λ t. t || member i (col (j + 1))) (ne_eqb (j + 1) i (λ e. omega arith))
 
-marks-part : (col : ℕ → List ℕ) (mark : ℕ → ℕ → Bool) (n k : ℕ) → k < n
+marks_part : (col : ℕ → List ℕ) (mark : ℕ → ℕ → Bool) (n k : ℕ) → k < n
     → drop (get_or (laid_starts col n) k 0) (laid_marks col mark n) ≡ (false ∷ map (mark (k + 1)) (col (k + 1))) ++ flat_map (λ j. false ∷ map (mark j) (col j)) (range_with_len (k + 1 + 1) (n - (k + 1)))
-marks-part col mark n k h =
+marks_part col mark n k h =
     ap (drop (get_or (laid_starts col n) k 0)) (joined_at (λ j. false ∷ map (mark j) (col j)) n k h)
-    ∙ drop_at (laid_marks col mark k) _ (get_or (laid_starts col n) k 0) (marks-length col mark k 1 ∙ sym (start_is col n k (omega arith)))
+    ∙ drop_at (laid_marks col mark k) _ (get_or (laid_starts col n) k 0) (marks_length col mark k 1 ∙ sym (start_is col n k (omega arith)))
 
-pub on_sheet-is : (col : ℕ → List ℕ) (mark : ℕ → ℕ → Bool) (n j i : ℕ) → j < n
+pub on_sheet_is : (col : ℕ → List ℕ) (mark : ℕ → ℕ → Bool) (n j i : ℕ) → j < n
     → on_sheet (laid_starts col n) (laid_rows col n) (laid_marks col mark n) j i ≡ (member i (col (j + 1)) && mark (j + 1) i)
-on_sheet-is col mark n j i h =
-    ap₂ (λ ls m. marked ls (drop (get_or (laid_starts col n) j 0) (laid_marks col mark n)) m i) (part-is col n j h) (part_length col n j h)
-    ∙ ap (λ bs. marked (((j + 1) ∷ col (j + 1)) ++ flat_map (λ j. j ∷ col j) (range_with_len (j + 1 + 1) (n - (j + 1)))) bs (length ((j + 1) ∷ col (j + 1))) i) (marks-part col mark n j h)
+on_sheet_is col mark n j i h =
+    ap₂ (λ ls m. marked ls (drop (get_or (laid_starts col n) j 0) (laid_marks col mark n)) m i) (part_is col n j h) (part_length col n j h)
+    ∙ ap (λ bs. marked (((j + 1) ∷ col (j + 1)) ++ flat_map (λ j. j ∷ col j) (range_with_len (j + 1 + 1) (n - (j + 1)))) bs (length ((j + 1) ∷ col (j + 1))) i) (marks_part col mark n j h)
     ∙ ap (λ t. t || marked (col (j + 1) ++ flat_map (λ j. j ∷ col j) (range_with_len (j + 1 + 1) (n - (j + 1)))) (map (mark (j + 1)) (col (j + 1)) ++ flat_map (λ j. false ∷ map (mark j) (col j)) (range_with_len (j + 1 + 1) (n - (j + 1)))) (length (col (j + 1))) i)
     (and_none (eqb (j + 1) i))
     ∙ marked_append (mark (j + 1)) (col (j + 1)) (flat_map (λ j. j ∷ col j) (range_with_len (j + 1 + 1) (n - (j + 1)))) (flat_map (λ j. false ∷ map (mark j) (col j)) (range_with_len (j + 1 + 1) (n - (j + 1)))) i
 
-chosen-in : (n : ℕ) (test : ℕ → ℕ → Bool) (k i : ℕ) → k < i → i ≤ n → member i (chosen n test k) ≡ test k i
-chosen-in n test k i l h =
-    member-kept (test k) i (range_with_len (k + 1) (n - k))
-    ∙ ap (λ t. t && test k i) (member-from i (range_with_len (k + 1) (n - k)) (counting-within i (k + 1) (n - k) (omega arith) (omega arith)))
+chosen_in : (n : ℕ) (test : ℕ → ℕ → Bool) (k i : ℕ) → k < i → i ≤ n → member i (chosen n test k) ≡ test k i
+chosen_in n test k i l h =
+    member_kept (test k) i (range_with_len (k + 1) (n - k))
+    ∙ ap (λ t. t && test k i) (member_from i (range_with_len (k + 1) (n - k)) (counting_within i (k + 1) (n - k) (omega arith) (omega arith)))
 
-chosen-out : (n : ℕ) (test : ℕ → ℕ → Bool) (k i : ℕ) → n < i → k ≤ n → member i (chosen n test k) ≡ false
-chosen-out n test k i l h =
-    member-kept (test k) i (range_with_len (k + 1) (n - k))
-    ∙ ap (λ t. t && test k i) (member-none i (range_with_len (k + 1) (n - k)) (counting-outside i (k + 1) (n - k) (omega arith)))
+chosen_out : (n : ℕ) (test : ℕ → ℕ → Bool) (k i : ℕ) → n < i → k ≤ n → member i (chosen n test k) ≡ false
+chosen_out n test k i l h =
+    member_kept (test k) i (range_with_len (k + 1) (n - k))
+    ∙ ap (λ t. t && test k i) (member_none i (range_with_len (k + 1) (n - k)) (counting_outside i (k + 1) (n - k) (omega arith)))
 
 any_same : (P Q : ℕ → Bool) (j : ℕ) → ((k : ℕ) → k < j → P k ≡ Q k) → any_below P j ≡ any_below Q j
 any_same P Q zero h = refl
@@ -198,44 +198,44 @@ absorbs true false a e = e
 absorbs false true a e = absurd (true≢false (sym e))
 absorbs false false a e = e
 
-pub closed-stands : (price : Price) (n : ℕ) (g : Graph)
+pub closed_stands : (price : Price) (n : ℕ) (g : Graph)
     → Closed n (laid_starts (column price g n) n) (laid_rows (column price g n) n) (laid_marks (column price g n) (sheet_link price g) n)
-closed-stands price n g j i h =
+closed_stands price n g j i h =
     let col = column price g n in
     let S = laid_starts col n in
     let R = laid_rows col n in
     let M = laid_marks col (sheet_link price g) n in
     let test : ℕ → ℕ → Bool = λ k i. in_column price g (k - 1) (i - 1) in
-    let j-is : j + 1 - 1 ≡ j = omega arith in
-    let here = holds-is col n j i h.0 h.1 in
-    let on = on_sheet-is col (sheet_link price g) n j i h.0 in
+    let j_is : j + 1 - 1 ≡ j = omega arith in
+    let here = holds_is col n j i h.0 h.1 in
+    let on = on_sheet_is col (sheet_link price g) n j i h.0 in
     elim (cases_lt n i) [
       | inl out ↦
-          (let none' : member i (col (j + 1)) ≡ false = chosen-out n test (j + 1) i out (omega (arith, h.0)) in
+          (let none' : member i (col (j + 1)) ≡ false = chosen_out n test (j + 1) i out (omega (arith, h.0)) in
           here ∙ none'
           ∙ sym (or_from (on_sheet S R M j i) (any_below (λ k. holds S R k (j + 1) && holds S R k i) j)
           (on ∙ ap (λ t. t && sheet_link price g (j + 1) i) none')
           (any_none (λ k. holds S R k (j + 1) && holds S R k i) j (λ k l.
           and_right (holds S R k (j + 1)) (holds S R k i)
-          (holds-is col n k i (omega (arith, h.0)) (omega (arith, h.1)) ∙ chosen-out n test (k + 1) i out (omega (arith, h.0)))))))
+          (holds_is col n k i (omega (arith, h.0)) (omega (arith, h.1)) ∙ chosen_out n test (k + 1) i out (omega (arith, h.0)))))))
       | inr within' ↦
           (let is : member i (col (j + 1)) ≡ in_column price g j (i - 1) =
-          chosen-in n test (j + 1) i h.1 within' ∙ ap (λ x. in_column price g x (i - 1)) j-is in
+          chosen_in n test (j + 1) i h.1 within' ∙ ap (λ x. in_column price g x (i - 1)) j_is in
           let link : sheet_link price g (j + 1) i ≡ g.linked (picked price g j) (picked price g (i - 1)) =
-          ap (λ x. g.linked (picked price g x) (picked price g (i - 1))) j-is in
+          ap (λ x. g.linked (picked price g x) (picked price g (i - 1))) j_is in
           let below : any_below (λ k. holds S R k (j + 1) && holds S R k i) j ≡ any_below (λ k. in_column price g k j && in_column price g k (i - 1)) j =
           any_same (λ k. holds S R k (j + 1) && holds S R k i) (λ k. in_column price g k j && in_column price g k (i - 1)) j (λ k l.
-          let k-is : k + 1 - 1 ≡ k = omega arith in
+          let k_is : k + 1 - 1 ≡ k = omega arith in
           ap₂ (λ x y. x && y)
-          (holds-is col n k (j + 1) (omega (arith, h.0)) (omega arith) ∙ chosen-in n test (k + 1) (j + 1) (omega arith) (omega (arith, h.0)) ∙ ap₂ (λ x y. in_column price g x y) k-is j-is)
-          (holds-is col n k i (omega (arith, h.0)) (omega (arith, h.1)) ∙ chosen-in n test (k + 1) i (omega (arith, h.1)) within' ∙ ap (λ x. in_column price g x (i - 1)) k-is)) in
+          (holds_is col n k (j + 1) (omega (arith, h.0)) (omega arith) ∙ chosen_in n test (k + 1) (j + 1) (omega arith) (omega (arith, h.0)) ∙ ap₂ (λ x y. in_column price g x y) k_is j_is)
+          (holds_is col n k i (omega (arith, h.0)) (omega (arith, h.1)) ∙ chosen_in n test (k + 1) i (omega (arith, h.1)) within' ∙ ap (λ x. in_column price g x (i - 1)) k_is)) in
           here ∙ is
-          ∙ absorbs (in_column price g j (i - 1)) (g.linked (picked price g j) (picked price g (i - 1))) (any_below (λ k. in_column price g k j && in_column price g k (i - 1)) j) (linked-after price g j (picked price g j) (picked price g (i - 1)))
+          ∙ absorbs (in_column price g j (i - 1)) (g.linked (picked price g j) (picked price g (i - 1))) (any_below (λ k. in_column price g k j && in_column price g k (i - 1)) j) (linked_after price g j (picked price g j) (picked price g (i - 1)))
           ∙ sym (ap₂ (λ x y. x || y) (on ∙ ap₂ (λ x y. x && y) is link) below))
     ]
 
 -- the number of places
-pub laid-places : (col : ℕ → List ℕ) (m a : ℕ) → length (flat_map (λ k. k ∷ col k) (range_with_len a m)) ≡ places (map col (range_with_len a m))
-laid-places col zero a = refl
-laid-places col (suc m) a =
-    omega (arith, length-append (a ∷ col a) (flat_map (λ k. k ∷ col k) (range_with_len (a + 1) m)), laid-places col m (a + 1))
+pub laid_places : (col : ℕ → List ℕ) (m a : ℕ) → length (flat_map (λ k. k ∷ col k) (range_with_len a m)) ≡ places (map col (range_with_len a m))
+laid_places col zero a = refl
+laid_places col (suc m) a =
+    omega (arith, length-append (a ∷ col a) (flat_map (λ k. k ∷ col k) (range_with_len (a + 1) m)), laid_places col m (a + 1))

@@ -7,16 +7,16 @@ use Rattle.std.proofs.lemmas.Bool.{eq-eqb, ne_eqb}
 use Rattle.graph.specs.Columns.{in_column, column, member}
 use Rattle.graph.specs.Graphs.{Graph, start, neighbours}
 use Rattle.graph.specs.Picking.{Price, remaining, picked, order, place_from}
-use Rattle.graph.proofs.Orders.{label, apart, position, holds-neighbours}
+use Rattle.graph.proofs.Orders.{label, apart, position, holds_neighbours}
 use Rattle.plan.specs.declared.records.NodeRecord.{NodeRecord}
 use Rattle.plan.specs.Laid.{laid_rows, laid_starts, laid_marks, sheet_link, at_positions, listed}
 use Rattle.plan.specs.Layout.{Undoes, Starts, Diagonals, Rises, Within, Closed}
 use Rattle.plan.specs.Planned.{Arrays, arrays_for, place_count}
 use Rattle.plan.specs.Stages.{Stands}
 use Rattle.plan.specs.Tables.{cell}
-use Rattle.plan.proofs.Assembled.{starts-stand, diagonals-stand, rises-stand, within-stands, closed-stands, laid-places}
-use Rattle.plan.proofs.Lays.{marks-length}
-use Rattle.plan.proofs.Spent.{kept-range}
+use Rattle.plan.proofs.Assembled.{starts_stand, diagonals_stand, rises_stand, within_stands, closed_stands, laid_places}
+use Rattle.plan.proofs.Lays.{marks_length}
+use Rattle.plan.proofs.Spent.{kept_range}
 
 joined_same : {X : Type 0} (f g : ℕ → List X) (m a : ℕ) → ((k : ℕ) → a ≤ k → k < a + m → f k ≡ g k) → flat_map f (range_with_len a m) ≡ flat_map g (range_with_len a m)
 joined_same f g zero a h = refl
@@ -28,15 +28,15 @@ map_same f g zero a h = refl
 map_same f g (suc m) a h =
     ap₂ (λ x y. x ∷ y) (h a (omega arith) (omega arith)) (map_same f g m (a + 1) (λ k l u. h k (omega arith) (omega arith)))
 
-map-cond : {X : Type 0} (f g : ℕ → X) (s : ℕ) (ls : List ℕ) (t : Bool) → f s ≡ g s → map f ls ≡ map g ls → map f (cond t (s ∷ ls) ls) ≡ map g (cond t (s ∷ ls) ls)
-map-cond f g s ls true e h = ap₂ (λ x y. x ∷ y) e h
-map-cond f g s ls false e h = h
+map_cond : {X : Type 0} (f g : ℕ → X) (s : ℕ) (ls : List ℕ) (t : Bool) → f s ≡ g s → map f ls ≡ map g ls → map f (cond t (s ∷ ls) ls) ≡ map g (cond t (s ∷ ls) ls)
+map_cond f g s ls true e h = ap₂ (λ x y. x ∷ y) e h
+map_cond f g s ls false e h = h
 
-map-kept : {X : Type 0} (f g : ℕ → X) (test : ℕ → Bool) (m a : ℕ) → ((k : ℕ) → a ≤ k → k < a + m → f k ≡ g k)
+map_kept : {X : Type 0} (f g : ℕ → X) (test : ℕ → Bool) (m a : ℕ) → ((k : ℕ) → a ≤ k → k < a + m → f k ≡ g k)
     → map f (filter test (range_with_len a m)) ≡ map g (filter test (range_with_len a m))
-map-kept f g test zero a h = refl
-map-kept f g test (suc m) a h =
-    map-cond f g a (filter test (range_with_len (a + 1) m)) (test a) (h a (omega arith) (omega arith)) (map-kept f g test m (a + 1) (λ k l u. h k (omega arith) (omega arith)))
+map_kept f g test zero a h = refl
+map_kept f g test (suc m) a h =
+    map_cond f g a (filter test (range_with_len (a + 1) m)) (test a) (h a (omega arith) (omega arith)) (map_kept f g test m (a + 1) (λ k l u. h k (omega arith) (omega arith)))
 
 -- the place of an entry of a list that has no entry twice
 pub place_at : (xs : List ℕ) (m k : ℕ) → ((i j : ℕ) → i < j → j < length xs → get_or xs i 0 ≡ get_or xs j 0 → ⊥) → k < length xs → place_from m xs (get_or xs k 0) ≡ m + k
@@ -65,80 +65,80 @@ module _ (price : Price) (n : ℕ) (linked : ℕ → ℕ → Bool) (nodes : List
   abbrev col : ℕ → List ℕ
   col = column price g n
 
-  pub order-length : length gone ≡ n
-  order-length = ap (λ ls. length ls) stands.chosen ∙ length-map-range_with_len (λ j. picked price g j) 0 n
+  pub order_length : length gone ≡ n
+  order_length = ap (λ ls. length ls) stands.chosen ∙ length-map-range_with_len (λ j. picked price g j) 0 n
 
-  pub order-at : (k : ℕ) → k < n → get_or gone k 0 ≡ picked price g k
-  order-at k h = ap (λ ls. get_or ls k 0) stands.chosen ∙ get_or-map-range_with_len (λ j. picked price g j) 0 n k k 0 h (omega arith)
+  pub order_at : (k : ℕ) → k < n → get_or gone k 0 ≡ picked price g k
+  order_at k h = ap (λ ls. get_or ls k 0) stands.chosen ∙ get_or-map-range_with_len (λ j. picked price g j) 0 n k k 0 h (omega arith)
 
-  pub order-labels : (k : ℕ) → k < n → (0 < get_or gone k 0) × (get_or gone k 0 ≤ n)
-  order-labels k h =
+  pub order_labels : (k : ℕ) → k < n → (0 < get_or gone k 0) × (get_or gone k 0 ≤ n)
+  order_labels k h =
       let l = label price n linked k h in
-      let e = order-at k h in
+      let e = order_at k h in
       (omega (arith, l.0, e), omega (arith, l.1, e))
 
-  pub order-apart : (k j : ℕ) → k < j → j < n → get_or gone k 0 ≡ get_or gone j 0 → ⊥
-  order-apart k j l h e = apart price n linked k j l h (sym (order-at k (omega arith)) ∙ e ∙ order-at j h)
+  pub order_apart : (k j : ℕ) → k < j → j < n → get_or gone k 0 ≡ get_or gone j 0 → ⊥
+  order_apart k j l h e = apart price n linked k j l h (sym (order_at k (omega arith)) ∙ e ∙ order_at j h)
 
   -- the rows at two positions
   row_at : (k i : ℕ) → 0 < k → k < i → i ≤ n → at_positions gone cells k i ≡ in_column price g (k - 1) (i - 1)
   row_at k i l m h =
-      let a = order-labels (k - 1) (omega arith) in
-      let b = order-labels (i - 1) (omega arith) in
-      let qa : get_or gone (k - 1) 0 - 1 + 1 ≡ picked price g (k - 1) = omega (arith, order-at (k - 1) (omega arith)) in
-      let qb : get_or gone (i - 1) 0 - 1 + 1 ≡ picked price g (i - 1) = omega (arith, order-at (i - 1) (omega arith)) in
+      let a = order_labels (k - 1) (omega arith) in
+      let b = order_labels (i - 1) (omega arith) in
+      let qa : get_or gone (k - 1) 0 - 1 + 1 ≡ picked price g (k - 1) = omega (arith, order_at (k - 1) (omega arith)) in
+      let qb : get_or gone (i - 1) 0 - 1 + 1 ≡ picked price g (i - 1) = omega (arith, order_at (i - 1) (omega arith)) in
       stands.went (k - 1) (get_or gone (k - 1) 0 - 1) (get_or gone (i - 1) 0 - 1) (omega arith) qa (omega arith)
       ∙ ap₂ (λ x y. member x (neighbours (remaining price g (k - 1)) y)) qb qa
-      ∙ sym (holds-neighbours price n linked (k - 1) (i - 1) (omega arith) (omega arith))
+      ∙ sym (holds_neighbours price n linked (k - 1) (i - 1) (omega arith) (omega arith))
 
-  listed-is : (k : ℕ) → 0 < k → k ≤ n → listed n gone cells k ≡ col k
-  listed-is k l h =
-      kept-range (at_positions gone cells k) (λ i. in_column price g (k - 1) (i - 1)) (k + 1) (n - k) (λ i a b. row_at k i l (omega arith) (omega arith))
+  listed_is : (k : ℕ) → 0 < k → k ≤ n → listed n gone cells k ≡ col k
+  listed_is k l h =
+      kept_range (at_positions gone cells k) (λ i. in_column price g (k - 1) (i - 1)) (k + 1) (n - k) (λ i a b. row_at k i l (omega arith) (omega arith))
 
   rows_upto : (m : ℕ) → m ≤ n → laid_rows (listed n gone cells) m ≡ laid_rows col m
-  rows_upto m h = joined_same (λ k. k ∷ listed n gone cells k) (λ k. k ∷ col k) m 1 (λ k l u. ap (λ (ls : List ℕ). k ∷ ls) (listed-is k (omega arith) (omega arith)))
+  rows_upto m h = joined_same (λ k. k ∷ listed n gone cells k) (λ k. k ∷ col k) m 1 (λ k l u. ap (λ (ls : List ℕ). k ∷ ls) (listed_is k (omega arith) (omega arith)))
 
   pub rows_same : laid_rows (listed n gone cells) n ≡ laid_rows col n
   rows_same = rows_upto n (omega arith)
 
-  pub starts-same : laid_starts (listed n gone cells) n ≡ laid_starts col n
-  starts-same = map_same (λ m. length (laid_rows (listed n gone cells) m)) (λ m. length (laid_rows col m)) (n + 1) 0 (λ m l u. ap (λ (ls : List ℕ). length ls) (rows_upto m (omega arith)))
+  pub starts_same : laid_starts (listed n gone cells) n ≡ laid_starts col n
+  starts_same = map_same (λ m. length (laid_rows (listed n gone cells) m)) (λ m. length (laid_rows col m)) (n + 1) 0 (λ m l u. ap (λ (ls : List ℕ). length ls) (rows_upto m (omega arith)))
 
-  pub marks-same : (links : List Bool) → ((a b : ℕ) → a < n → b < n → cell links a b ≡ linked (a + 1) (b + 1))
+  pub marks_same : (links : List Bool) → ((a b : ℕ) → a < n → b < n → cell links a b ≡ linked (a + 1) (b + 1))
       → laid_marks (listed n gone cells) (at_positions gone links) n ≡ laid_marks col (sheet_link price g) n
-  marks-same links e = joined_same (λ k. false ∷ map (at_positions gone links k) (listed n gone cells k)) (λ k. false ∷ map (sheet_link price g k) (col k)) n 1
+  marks_same links e = joined_same (λ k. false ∷ map (at_positions gone links k) (listed n gone cells k)) (λ k. false ∷ map (sheet_link price g k) (col k)) n 1
       (λ k l u. ap (λ (ls : List Bool). false ∷ ls)
-      (ap (map (at_positions gone links k)) (listed-is k (omega arith) (omega arith))
-      ∙ map-kept (at_positions gone links k) (sheet_link price g k) (λ i. in_column price g (k - 1) (i - 1)) (n - k) (k + 1)
+      (ap (map (at_positions gone links k)) (listed_is k (omega arith) (omega arith))
+      ∙ map_kept (at_positions gone links k) (sheet_link price g k) (λ i. in_column price g (k - 1) (i - 1)) (n - k) (k + 1)
       (λ i a b.
-      let x = order-labels (k - 1) (omega arith) in
-      let y = order-labels (i - 1) (omega arith) in
-      let qx : get_or gone (k - 1) 0 - 1 + 1 ≡ picked price g (k - 1) = omega (arith, order-at (k - 1) (omega arith)) in
-      let qy : get_or gone (i - 1) 0 - 1 + 1 ≡ picked price g (i - 1) = omega (arith, order-at (i - 1) (omega arith)) in
+      let x = order_labels (k - 1) (omega arith) in
+      let y = order_labels (i - 1) (omega arith) in
+      let qx : get_or gone (k - 1) 0 - 1 + 1 ≡ picked price g (k - 1) = omega (arith, order_at (k - 1) (omega arith)) in
+      let qy : get_or gone (i - 1) 0 - 1 + 1 ≡ picked price g (i - 1) = omega (arith, order_at (i - 1) (omega arith)) in
       e (get_or gone (k - 1) 0 - 1) (get_or gone (i - 1) 0 - 1) (omega arith) (omega arith) ∙ ap₂ linked qx qy)))
 
   pub places_same : length (laid_rows (listed n gone cells) n) ≡ place_count price n linked
-  places_same = ap (λ (ls : List ℕ). length ls) rows_same ∙ laid-places col n 1
+  places_same = ap (λ (ls : List ℕ). length ls) rows_same ∙ laid_places col n 1
 
   -- the positions that undo the order are the places of the labels in it
-  pub positions-are : (positions : List ℕ) → length positions ≡ n → Undoes n gone positions → positions ≡ map (place_from 1 (order price g n)) (range_with_len 1 n)
-  positions-are positions len u =
+  pub positions_are : (positions : List ℕ) → length positions ≡ n → Undoes n gone positions → positions ≡ map (place_from 1 (order price g n)) (range_with_len 1 n)
+  positions_are positions len u =
       ext_get_or 0 positions (map (place_from 1 (order price g n)) (range_with_len 1 n)) (len ∙ sym (length-map-range_with_len (place_from 1 (order price g n)) 1 n)) (λ v h.
       let w = position price n linked (v + 1) (omega arith) (omega arith) in
       let m = w.0 in
-      let a : get_or gone m 0 ≡ v + 1 = order-at m w.1 ∙ w.2 in
+      let a : get_or gone m 0 ≡ v + 1 = order_at m w.1 ∙ w.2 in
       let q : v ≡ get_or gone m 0 - 1 = omega arith in
       let b : get_or positions v 0 ≡ m + 1 = ap (λ x. get_or positions x 0) q ∙ (u m w.1).2 in
       b ∙ (let s : m + 1 ≡ 1 + m = omega arith in s)
-      ∙ sym (place_at gone 1 m (λ i j l k e. order-apart i j l (omega (arith, order-length)) e) (omega (arith, w.1, order-length)))
+      ∙ sym (place_at gone 1 m (λ i j l k e. order_apart i j l (omega (arith, order_length)) e) (omega (arith, w.1, order_length)))
       ∙ ap₂ (λ xs x. place_from 1 xs x) stands.chosen (a ∙ (let s : v + 1 ≡ 1 + v = omega arith in s))
       ∙ sym (get_or-map-range_with_len (place_from 1 (order price g n)) 1 n v (1 + v) 0 (omega arith) (omega arith)))
 
-  placed-back : (positions : List ℕ) → Undoes n gone positions → Undoes n positions gone
-  placed-back positions u v h =
+  placed_back : (positions : List ℕ) → Undoes n gone positions → Undoes n positions gone
+  placed_back positions u v h =
       let w = position price n linked (v + 1) (omega arith) (omega arith) in
       let m = w.0 in
-      let a : get_or gone m 0 ≡ v + 1 = order-at m w.1 ∙ w.2 in
+      let a : get_or gone m 0 ≡ v + 1 = order_at m w.1 ∙ w.2 in
       let b : get_or positions v 0 ≡ m + 1 = (let q : v ≡ get_or gone m 0 - 1 = omega arith in ap (λ x. get_or positions x 0) q ∙ (u m w.1).2) in
       let q : get_or positions v 0 - 1 ≡ m = omega arith in
       (omega arith, omega (arith, w.1), ap (λ x. get_or gone x 0) q ∙ a)
@@ -146,12 +146,12 @@ module _ (price : Price) (n : ℕ) (linked : ℕ → ℕ → Bool) (nodes : List
   laid : (positions : List ℕ) → Undoes n gone positions → Fields n (record { order = gone; positions = positions; starts = laid_starts col n; rows = laid_rows col n; links = laid_marks col (sheet_link price g) n })
   laid positions u = record {
     ranked = u;
-    placed = placed-back positions u;
-    starting = starts-stand col n;
-    headed = diagonals-stand col n;
-    rising = rises-stand n (λ k i. in_column price g (k - 1) (i - 1));
-    within = within-stands n (λ k i. in_column price g (k - 1) (i - 1));
-    closed = closed-stands price n g;
+    placed = placed_back positions u;
+    starting = starts_stand col n;
+    headed = diagonals_stand col n;
+    rising = rises_stand n (λ k i. in_column price g (k - 1) (i - 1));
+    within = within_stands n (λ k i. in_column price g (k - 1) (i - 1));
+    closed = closed_stands price n g;
   }
 
   -- what was laid out keeps the rules
@@ -164,15 +164,15 @@ module _ (price : Price) (n : ℕ) (linked : ℕ → ℕ → Bool) (nodes : List
       (subst (λ xs. Fields n (record { order = gone; positions = positions; starts = laid_starts col n; rows = laid_rows col n; links = xs })) (sym em) (laid positions u))))
 
   -- and is what the definitions give
-  pub arrays-are : (positions starts rows : List ℕ) (links : List Bool) → length positions ≡ n → Undoes n gone positions → starts ≡ laid_starts col n → rows ≡ laid_rows col n → links ≡ laid_marks col (sheet_link price g) n
+  pub arrays_are : (positions starts rows : List ℕ) (links : List Bool) → length positions ≡ n → Undoes n gone positions → starts ≡ laid_starts col n → rows ≡ laid_rows col n → links ≡ laid_marks col (sheet_link price g) n
       → ◌≡◌ {A = Arrays} (record { order = gone; positions = positions; starts = starts; rows = rows; links = links }) (arrays_for price n linked)
-  arrays-are positions starts rows links len u es er em =
+  arrays_are positions starts rows links len u es er em =
       let eo = stands.chosen in
-      let ep = positions-are positions len u in
+      let ep = positions_are positions len u in
       cc
 
-pub starts-long : (col : ℕ → List ℕ) (n : ℕ) → length (laid_starts col n) ≡ n + 1
-starts-long col n = length-map-range_with_len (λ m. length (laid_rows col m)) 0 (n + 1)
+pub starts_long : (col : ℕ → List ℕ) (n : ℕ) → length (laid_starts col n) ≡ n + 1
+starts_long col n = length-map-range_with_len (λ m. length (laid_rows col m)) 0 (n + 1)
 
-pub marks-long : (col : ℕ → List ℕ) (mark : ℕ → ℕ → Bool) (n : ℕ) → length (laid_marks col mark n) ≡ length (laid_rows col n)
-marks-long col mark n = marks-length col mark n 1
+pub marks_long : (col : ℕ → List ℕ) (mark : ℕ → ℕ → Bool) (n : ℕ) → length (laid_marks col mark n) ≡ length (laid_rows col n)
+marks_long col mark n = marks_length col mark n 1

@@ -13,11 +13,11 @@ Agrees price p v [] = Unit {0}
 Agrees price p v (r ∷ rs) = (r.gone ≡ false → price v r.degree ≡ p v) × Agrees price p (v + 1) rs
 
 -- one turn of the scan
-pub scan-more : (price : ℕ → ℕ → ℕ) (start best new : Option (ℕ × ℕ)) (i : ℕ) (rs : List NodeRecord) (node : NodeRecord)
+pub scan_more : (price : ℕ → ℕ → ℕ) (start best new : Option (ℕ × ℕ)) (i : ℕ) (rs : List NodeRecord) (node : NodeRecord)
     → scan price best (i + 1) (drop i rs) ≡ start → i < length rs → node ≡ get_or rs i node
     → new ≡ cond node.gone best (better best (i + 1) (price (i + 1) node.degree))
     → scan price new (i + 1 + 1) (drop (i + 1) rs) ≡ start
-scan-more price start best new i rs node inv h e n =
+scan_more price start best new i rs node inv h e n =
     ap (λ b. scan price b (i + 1 + 1) (drop (i + 1) rs)) n
     ∙ ap (λ (r : NodeRecord). scan price (cond r.gone best (better best (i + 1) (price (i + 1) r.degree))) (i + 1 + 1) (drop (i + 1) rs)) e
     ∙ sym (at_drop_more (scan price best (i + 1)) rs i node h) ∙ inv
@@ -36,18 +36,18 @@ pub stays : (gone : Bool) (best : Option (ℕ × ℕ)) (b : ℕ × ℕ) (v p : �
 stays gone best b v p e n l =
     sym (ap (λ t. cond t best (better best v p)) e ∙ ap (λ t. better t v p) n ∙ ap (λ t. cond t (Some (v, p)) (Some b)) (le-ltb p b.1 l))
 
-pub scan-all : (price : ℕ → ℕ → ℕ) (best : Option (ℕ × ℕ)) (i : ℕ) (rs : List NodeRecord)
+pub scan_all : (price : ℕ → ℕ → ℕ) (best : Option (ℕ × ℕ)) (i : ℕ) (rs : List NodeRecord)
     → scan price best (i + 1) (drop i rs) ≡ scan price None 1 rs → length rs ≤ i → label_of best ≡ next_of price rs
-scan-all price best i rs inv h = ap label_of (sym (at_drop_all (scan price best (i + 1)) rs i h) ∙ inv)
+scan_all price best i rs inv h = ap label_of (sym (at_drop_all (scan price best (i + 1)) rs i h) ∙ inv)
 
 abbrev pub picked : (ℕ → ℕ) → ℕ → List ℕ → Option (ℕ × ℕ)
 picked p b ls = Some (least p b ls, p (least p b ls))
 
-scan-choice : (price : ℕ → ℕ → ℕ) (p : ℕ → ℕ) (b v : ℕ) (rs : List NodeRecord) (ls : List ℕ)
+scan_choice : (price : ℕ → ℕ → ℕ) (p : ℕ → ℕ) (b v : ℕ) (rs : List NodeRecord) (ls : List ℕ)
     → ((c : ℕ) → scan price (Some (c, p c)) (v + 1) rs ≡ picked p c ls)
     → (t : Bool) → scan price (cond t (Some (v, p v)) (Some (b, p b))) (v + 1) rs ≡ picked p (cond t v b) ls
-scan-choice price p b v rs ls h true = h v
-scan-choice price p b v rs ls h false = h b
+scan_choice price p b v rs ls h true = h v
+scan_choice price p b v rs ls h false = h b
 
 scan_step : (price : ℕ → ℕ → ℕ) (p : ℕ → ℕ) (b v q : ℕ) (rs : List NodeRecord) (ls : List ℕ)
     → ((c : ℕ) → scan price (Some (c, p c)) (v + 1) rs ≡ picked p c ls)
@@ -55,30 +55,30 @@ scan_step : (price : ℕ → ℕ → ℕ) (p : ℕ → ℕ) (b v q : ℕ) (rs : 
     → scan price (cond gone (Some (b, p b)) (better (Some (b, p b)) v q)) (v + 1) rs ≡ picked p b (cond gone ls (v ∷ ls))
 scan_step price p b v q rs ls h true e = h b
 scan_step price p b v q rs ls h false e =
-    ap (λ x. scan price (better (Some (b, p b)) v x) (v + 1) rs) (e refl) ∙ scan-choice price p b v rs ls h (ltb (p v) (p b))
+    ap (λ x. scan price (better (Some (b, p b)) v x) (v + 1) rs) (e refl) ∙ scan_choice price p b v rs ls h (ltb (p v) (p b))
 
 -- the scan from a first find on is the spec's pick
-pub scan-least : (price : ℕ → ℕ → ℕ) (p : ℕ → ℕ) (b v : ℕ) (rs : List NodeRecord) → Agrees price p v rs
+pub scan_least : (price : ℕ → ℕ → ℕ) (p : ℕ → ℕ) (b v : ℕ) (rs : List NodeRecord) → Agrees price p v rs
     → scan price (Some (b, p b)) v rs ≡ picked p b (labels v rs)
-scan-least price p b v [] h = refl
-scan-least price p b v (r ∷ rs) h =
-    scan_step price p b v (price v r.degree) rs (labels (v + 1) rs) (λ c. scan-least price p c (v + 1) rs h.1) r.gone h.0
+scan_least price p b v [] h = refl
+scan_least price p b v (r ∷ rs) h =
+    scan_step price p b v (price v r.degree) rs (labels (v + 1) rs) (λ c. scan_least price p c (v + 1) rs h.1) r.gone h.0
 
-abbrev pub first-in : (ℕ → ℕ) → List ℕ → Option ℕ
-first-in p [] = None
-first-in p (x ∷ xs) = Some (least p x xs)
+abbrev pub first_in : (ℕ → ℕ) → List ℕ → Option ℕ
+first_in p [] = None
+first_in p (x ∷ xs) = Some (least p x xs)
 
 first_step : (price : ℕ → ℕ → ℕ) (p : ℕ → ℕ) (v q : ℕ) (rs : List NodeRecord) (ls : List ℕ)
     → ((c : ℕ) → scan price (Some (c, p c)) (v + 1) rs ≡ picked p c ls)
-    → label_of (scan price None (v + 1) rs) ≡ first-in p ls
+    → label_of (scan price None (v + 1) rs) ≡ first_in p ls
     → (gone : Bool) → (gone ≡ false → q ≡ p v)
-    → label_of (scan price (cond gone None (better None v q)) (v + 1) rs) ≡ first-in p (cond gone ls (v ∷ ls))
+    → label_of (scan price (cond gone None (better None v q)) (v + 1) rs) ≡ first_in p (cond gone ls (v ∷ ls))
 first_step price p v q rs ls h i true e = i
 first_step price p v q rs ls h i false e =
     ap (λ x. label_of (scan price (Some (v, x)) (v + 1) rs)) (e refl) ∙ ap label_of (h v)
 
-pub scan-first : (price : ℕ → ℕ → ℕ) (p : ℕ → ℕ) (v : ℕ) (rs : List NodeRecord) → Agrees price p v rs
-    → label_of (scan price None v rs) ≡ first-in p (labels v rs)
-scan-first price p v [] h = refl
-scan-first price p v (r ∷ rs) h =
-    first_step price p v (price v r.degree) rs (labels (v + 1) rs) (λ c. scan-least price p c (v + 1) rs h.1) (scan-first price p (v + 1) rs h.1) r.gone h.0
+pub scan_first : (price : ℕ → ℕ → ℕ) (p : ℕ → ℕ) (v : ℕ) (rs : List NodeRecord) → Agrees price p v rs
+    → label_of (scan price None v rs) ≡ first_in p (labels v rs)
+scan_first price p v [] h = refl
+scan_first price p v (r ∷ rs) h =
+    first_step price p v (price v r.degree) rs (labels (v + 1) rs) (λ c. scan_least price p c (v + 1) rs h.1) (scan_first price p (v + 1) rs h.1) r.gone h.0

@@ -7,68 +7,68 @@ use Rattle.graph.specs.Columns.{in_column, column, columns, places}
 use Rattle.graph.specs.Graphs.{start, degree}
 use Rattle.graph.specs.Picking.{Price, remaining, picked}
 use Rattle.plan.specs.Stages.{spent}
-use Rattle.graph.proofs.Orders.{one-if, occurs, without, left_at, lengths, picked-among, apart}
-use Rattle.plan.proofs.Steps.{kept-without}
+use Rattle.graph.proofs.Orders.{one_if, occurs, without, left_at, lengths, picked_among, apart}
+use Rattle.plan.proofs.Steps.{kept_without}
 
-without-none : (v : ℕ) (xs : List ℕ) → occurs v xs ≡ 0 → without v xs ≡ xs
-without-none v [] h = refl
-without-none v (x ∷ xs) h =
+without_none : (v : ℕ) (xs : List ℕ) → occurs v xs ≡ 0 → without v xs ≡ xs
+without_none v [] h = refl
+without_none v (x ∷ xs) h =
     elim (cases_Bool (eqb x v)) [
-      | inl e ↦ absurd (omega (arith, ap one-if e))
+      | inl e ↦ absurd (omega (arith, ap one_if e))
       | inr e ↦
           ap (λ t. cond (not t) (x ∷ without v xs) (without v xs)) e
-          ∙ ap (λ (ls : List ℕ). x ∷ ls) (without-none v xs (omega (arith, ap one-if e)))
+          ∙ ap (λ (ls : List ℕ). x ∷ ls) (without_none v xs (omega (arith, ap one_if e)))
     ]
 
-kept-length : (x : ℕ) (rest : List ℕ) (b : Bool) → length (cond b (x ∷ rest) rest) ≡ cond b 1 0 + length rest
-kept-length x rest true = omega arith
-kept-length x rest false = omega arith
+kept_length : (x : ℕ) (rest : List ℕ) (b : Bool) → length (cond b (x ∷ rest) rest) ≡ cond b 1 0 + length rest
+kept_length x rest true = omega arith
+kept_length x rest false = omega arith
 
 -- one label taken out
-kept-out-step : (P : ℕ → Bool) (v x : ℕ) (xs : List ℕ) → occurs v (x ∷ xs) ≡ 1
+kept_out_step : (P : ℕ → Bool) (v x : ℕ) (xs : List ℕ) → occurs v (x ∷ xs) ≡ 1
     → (occurs v xs ≡ 1 → length (filter P xs) ≡ cond (P v) 1 0 + length (filter P (without v xs)))
     → (t : Bool) → eqb x v ≡ t
     → length (filter P (x ∷ xs)) ≡ cond (P v) 1 0 + length (filter P (cond (not t) (x ∷ without v xs) (without v xs)))
-kept-out-step P v x xs h i true e =
-    kept-length x (filter P xs) (P x)
-    ∙ ap₂ (λ t ls. cond t 1 0 + length (filter P ls)) (ap P (eqb-true x v e)) (sym (without-none v xs (omega (arith, ap one-if e))))
-kept-out-step P v x xs h i false e =
-    let a = kept-length x (filter P xs) (P x) in
-    let b = kept-length x (filter P (without v xs)) (P x) in
-    omega (arith, i (omega (arith, ap one-if e)))
+kept_out_step P v x xs h i true e =
+    kept_length x (filter P xs) (P x)
+    ∙ ap₂ (λ t ls. cond t 1 0 + length (filter P ls)) (ap P (eqb-true x v e)) (sym (without_none v xs (omega (arith, ap one_if e))))
+kept_out_step P v x xs h i false e =
+    let a = kept_length x (filter P xs) (P x) in
+    let b = kept_length x (filter P (without v xs)) (P x) in
+    omega (arith, i (omega (arith, ap one_if e)))
 
 kept_out : (P : ℕ → Bool) (v : ℕ) (xs : List ℕ) → occurs v xs ≡ 1 → length (filter P xs) ≡ cond (P v) 1 0 + length (filter P (without v xs))
 kept_out P v [] h = absurd (omega (arith, h))
-kept_out P v (x ∷ xs) h = kept-out-step P v x xs h (λ q. kept_out P v xs q) (eqb x v) refl
+kept_out P v (x ∷ xs) h = kept_out_step P v x xs h (λ q. kept_out P v xs q) (eqb x v) refl
 
 -- tests that agree on a range keep the same
-pub kept-range : (test other : ℕ → Bool) (s m : ℕ) → ((i : ℕ) → s ≤ i → i < s + m → test i ≡ other i)
+pub kept_range : (test other : ℕ → Bool) (s m : ℕ) → ((i : ℕ) → s ≤ i → i < s + m → test i ≡ other i)
     → filter test (range_with_len s m) ≡ filter other (range_with_len s m)
-kept-range test other s zero h = refl
-kept-range test other s (suc m) h =
-    ap₂ (λ t ls. cond t (s ∷ ls) ls) (h s (omega arith) (omega arith)) (kept-range test other (s + 1) m (λ i l u. h i (omega arith) (omega arith)))
+kept_range test other s zero h = refl
+kept_range test other s (suc m) h =
+    ap₂ (λ t ls. cond t (s ∷ ls) ls) (h s (omega arith) (omega arith)) (kept_range test other (s + 1) m (λ i l u. h i (omega arith) (omega arith)))
 
 module _ (price : Price) (n : ℕ) (linked : ℕ → ℕ → Bool) where
   -- the later positions go through what is left
-  kept-left : (P : ℕ → Bool) (m i : ℕ) → i + m ≡ n
+  kept_left : (P : ℕ → Bool) (m i : ℕ) → i + m ≡ n
       → length (filter (λ x. P (picked price (start n linked) (x - 1))) (range_with_len (i + 1) m)) ≡ length (filter P (left_at price n linked i))
-  kept-left P zero i h =
+  kept_left P zero i h =
       let z : length (left_at price n linked i) ≡ 0 = omega (arith, lengths price n linked i (omega arith)) in
       sym (ap (λ ls. length (filter P ls)) (nil_from_length (left_at price n linked i) z))
-  kept-left P (suc m) i h =
+  kept_left P (suc m) i h =
       let test : ℕ → Bool = λ x. P (picked price (start n linked) (x - 1)) in
       let e : i + 1 - 1 ≡ i = omega arith in
       let e' : suc i + 1 ≡ i + 1 + 1 = omega arith in
-      let a = kept-length (i + 1) (filter test (range_with_len (i + 1 + 1) m)) (test (i + 1)) in
+      let a = kept_length (i + 1) (filter test (range_with_len (i + 1 + 1) m)) (test (i + 1)) in
       let b : cond {A = ℕ} (test (i + 1)) 1 0 ≡ cond {A = ℕ} (P (picked price (start n linked) i)) 1 0 = ap (λ x. cond {A = ℕ} (P (picked price (start n linked) x)) 1 0) e in
       let c : length (filter test (range_with_len (i + 1 + 1) m)) ≡ length (filter P (left_at price n linked (suc i))) =
-      ap (λ x. length (filter test (range_with_len x m))) (sym e') ∙ kept-left P m (suc i) (omega arith) in
-      let d = kept_out P (picked price (start n linked) i) (left_at price n linked i) (picked-among price n linked i (omega arith)) in
+      ap (λ x. length (filter test (range_with_len x m))) (sym e') ∙ kept_left P m (suc i) (omega arith) in
+      let d = kept_out P (picked price (start n linked) i) (left_at price n linked i) (picked_among price n linked i (omega arith)) in
       omega (arith, a, b, c, d)
 
-  pub column-length : (j : ℕ) → j < n
+  pub column_length : (j : ℕ) → j < n
       → length (column price (start n linked) n (j + 1)) ≡ degree (remaining price (start n linked) j) (picked price (start n linked) j)
-  column-length j h =
+  column_length j h =
       let g = remaining price (start n linked) j in
       let v = picked price (start n linked) j in
       let P : ℕ → Bool = λ w. not (eqb w v) && g.linked v w in
@@ -76,30 +76,30 @@ module _ (price : Price) (n : ℕ) (linked : ℕ → ℕ → Bool) where
       let e' : j + 1 + 1 ≡ suc j + 1 = omega arith in
       let e'' : n - (j + 1) ≡ n - suc j = omega arith in
       ap (λ (ls : List ℕ). length ls)
-      (kept-range (λ i. in_column price (start n linked) (j + 1 - 1) (i - 1)) (λ x. P (picked price (start n linked) (x - 1))) (j + 1 + 1) (n - (j + 1))
+      (kept_range (λ i. in_column price (start n linked) (j + 1 - 1) (i - 1)) (λ x. P (picked price (start n linked) (x - 1))) (j + 1 + 1) (n - (j + 1))
       (λ i l u.
       ap (λ x. in_column price (start n linked) x (i - 1)) e
       ∙ sym (ap (λ t. not t && g.linked v (picked price (start n linked) (i - 1)))
       (ne_eqb (picked price (start n linked) (i - 1)) v (λ q. apart price n linked j (i - 1) (omega arith) (omega arith) (sym q))))))
       ∙ ap₂ (λ s m. length (filter (λ x. P (picked price (start n linked) (x - 1))) (range_with_len s m))) e' e''
-      ∙ kept-left P (n - suc j) (suc j) (omega arith)
-      ∙ ap (λ (ls : List ℕ). length ls) (kept-without P v g.left (and_left (not (eqb v v)) (g.linked v v) (ap not (eq-eqb v v refl))))
+      ∙ kept_left P (n - suc j) (suc j) (omega arith)
+      ∙ ap (λ (ls : List ℕ). length ls) (kept_without P v g.left (and_left (not (eqb v v)) (g.linked v v) (ap not (eq-eqb v v refl))))
 
-  places-from : (m j : ℕ) → j + m ≡ n
+  places_from : (m j : ℕ) → j + m ≡ n
       → spent price (start n linked) j + places (map (column price (start n linked) n) (range_with_len (j + 1) m)) ≡ spent price (start n linked) n
-  places-from zero j h = let e : j ≡ n = omega arith in omega (arith, ap (spent price (start n linked)) e)
-  places-from (suc m) j h =
+  places_from zero j h = let e : j ≡ n = omega arith in omega (arith, ap (spent price (start n linked)) e)
+  places_from (suc m) j h =
       let e : suc j + 1 ≡ j + 1 + 1 = omega arith in
-      let i = places-from m (suc j) (omega arith) in
+      let i = places_from m (suc j) (omega arith) in
       let f : places (map (column price (start n linked) n) (range_with_len (suc j + 1) m)) ≡ places (map (column price (start n linked) n) (range_with_len (j + 1 + 1) m)) =
       ap (λ x. places (map (column price (start n linked) n) (range_with_len x m))) e in
-      omega (arith, i, f, column-length j (omega arith))
+      omega (arith, i, f, column_length j (omega arith))
 
-  pub places-spent : places (columns price (start n linked) n) ≡ spent price (start n linked) n
-  places-spent = let e = places-from n 0 (omega arith) in omega (arith, e)
+  pub places_spent : places (columns price (start n linked) n) ≡ spent price (start n linked) n
+  places_spent = let e = places_from n 0 (omega arith) in omega (arith, e)
 
-  pub spent-grows : (k m : ℕ) → spent price (start n linked) k ≤ spent price (start n linked) (k + m)
-  spent-grows k zero = let e : k ≡ k + 0 = omega arith in omega (arith, ap (spent price (start n linked)) e)
-  spent-grows k (suc m) =
+  pub spent_grows : (k m : ℕ) → spent price (start n linked) k ≤ spent price (start n linked) (k + m)
+  spent_grows k zero = let e : k ≡ k + 0 = omega arith in omega (arith, ap (spent price (start n linked)) e)
+  spent_grows k (suc m) =
       let e : suc (k + m) ≡ k + suc m = omega arith in
-      omega (arith, spent-grows k m, ap (spent price (start n linked)) e)
+      omega (arith, spent_grows k m, ap (spent price (start n linked)) e)

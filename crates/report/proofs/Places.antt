@@ -12,8 +12,8 @@ take_within xs k n e =
     (λ h. take_all k xs (omega arith) ∙ sym (take_all n xs h))
     (cases_lt n (length xs))
 
-drop-within : (xs : List ℕ) (k n : ℕ) → k ≡ min n (length xs) → drop k xs ≡ drop n xs
-drop-within xs k n e =
+drop_within : (xs : List ℕ) (k n : ℕ) → k ≡ min n (length xs) → drop k xs ≡ drop n xs
+drop_within xs k n e =
     ⊎_elim
     (λ h. let same : k ≡ n = omega arith in ap (λ m. drop m xs) same)
     (λ h. drop_all k xs (omega arith) ∙ sym (drop_all n xs h))
@@ -22,4 +22,4 @@ drop-within xs k n e =
 pub cut_out : (xs : List ℕ) (p start k : ℕ) → start ≡ min (4 * p) (length xs) → k ≡ min (length (take (length xs - start) (drop start xs))) 4 → take k (take (length xs - start) (drop start xs)) ≡ bytes_at xs p
 cut_out xs p start k e h =
     take_within (take (length xs - start) (drop start xs)) k 4 h
-    ∙ ap (take 4) (take_rest xs start ∙ drop-within xs start (4 * p) e)
+    ∙ ap (take 4) (take_rest xs start ∙ drop_within xs start (4 * p) e)

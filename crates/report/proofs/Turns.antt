@@ -9,12 +9,12 @@ abbrev pub SoFar : {W : Type 0} → (W → List ℕ → W → Type 0) → Format
 SoFar took f bs g = IsPlainFormatter f → HasWritten took f bs g
 
 module _ {W : Type 0} (took : W → List ℕ → W → Type 0) where
-  pub so-far-none : (f : Formatter W) → SoFar took f [] f
-  so-far-none f p = record { wrote = writes_in_calls_nil took f.writer; plain = p }
+  pub so_far_none : (f : Formatter W) → SoFar took f [] f
+  so_far_none f p = record { wrote = writes_in_calls_nil took f.writer; plain = p }
 
   -- b is written after a
   pub so_far_more : {f g h : Formatter W} {a b bs : List ℕ} → a ++ b ≡ bs → SoFar took f a g → (IsPlainFormatter g → true ≡ true → HasWritten took g b h) → SoFar took f bs h
   so_far_more e x y p = let u = x p in has_written_of_eq took _ _ _ _ e (has_written_append took _ _ _ _ _ u (y u.plain refl))
 
-  pub so-far-is : {f g : Formatter W} {a b : List ℕ} → a ≡ b → SoFar took f a g → SoFar took f b g
-  so-far-is e x p = has_written_of_eq took _ _ _ _ e (x p)
+  pub so_far_is : {f g : Formatter W} {a b : List ℕ} → a ≡ b → SoFar took f a g → SoFar took f b g
+  so_far_is e x p = has_written_of_eq took _ _ _ _ e (x p)

@@ -49,27 +49,27 @@ by kind spare spare' h l o e p =
 low_bits : (x a k : ℕ) → a < 2 ^ 10 → x ≡ a + k * 2 ^ 10 → x % 2 ^ 10 ≡ a
 low_bits x a k h e = omega arith
 
-pub decode-number : (w : Word) (p : ℕ) → Ranged w → decoded (number w) p ≡ Ok w
-decode-number (Head n) p h =
+pub decode_number : (w : Word) (p : ℕ) → Ranged w → decoded (number w) p ≡ Ok w
+decode_number (Head n) p h =
     let v = 1 * 2 ^ 28 + n in
     let e : v / 2 ^ 28 ≡ 1 = omega arith in
     let f : v / 2 ^ 10 % 2 ^ 18 ≡ 0 = omega arith in
     let g : v % 2 ^ 10 ≡ n = omega arith in
     ap (λ k. by k (v / 2 ^ 10 % 2 ^ 18) (v / 2 ^ 20 % 2 ^ 8) (Head (v % 2 ^ 10)) (Link (v / 2 ^ 10 % 2 ^ 10) (v % 2 ^ 10)) (Order (v % 2 ^ 10)) (End (v % 2 ^ 28)) p) e ∙ ap (λ s. unspared s p (Head (v % 2 ^ 10))) f ∙ ap (λ x. Ok (Head x)) g
-decode-number (Link a b) p h =
+decode_number (Link a b) p h =
     let v = 2 * 2 ^ 28 + a * 2 ^ 10 + b in
     let e : v / 2 ^ 28 ≡ 2 = omega (arith, h.0, h.1) in
     let f : v / 2 ^ 20 % 2 ^ 8 ≡ 0 = omega (arith, h.0, h.1) in
     let g : v % 2 ^ 10 ≡ b = omega (arith, h.1) in
     let g' : v / 2 ^ 10 % 2 ^ 10 ≡ a = low_bits (v / 2 ^ 10) a (2 * 2 ^ 8) h.0 (omega (arith, h.1)) in
     ap (λ k. by k (v / 2 ^ 10 % 2 ^ 18) (v / 2 ^ 20 % 2 ^ 8) (Head (v % 2 ^ 10)) (Link (v / 2 ^ 10 % 2 ^ 10) (v % 2 ^ 10)) (Order (v % 2 ^ 10)) (End (v % 2 ^ 28)) p) e ∙ ap (λ s. unspared s p (Link (v / 2 ^ 10 % 2 ^ 10) (v % 2 ^ 10))) f ∙ ap (λ x. Ok (Link x (v % 2 ^ 10))) g' ∙ ap (λ x. Ok (Link a x)) g
-decode-number (Order a) p h =
+decode_number (Order a) p h =
     let v = 3 * 2 ^ 28 + a in
     let e : v / 2 ^ 28 ≡ 3 = omega arith in
     let f : v / 2 ^ 10 % 2 ^ 18 ≡ 0 = omega arith in
     let g : v % 2 ^ 10 ≡ a = omega arith in
     ap (λ k. by k (v / 2 ^ 10 % 2 ^ 18) (v / 2 ^ 20 % 2 ^ 8) (Head (v % 2 ^ 10)) (Link (v / 2 ^ 10 % 2 ^ 10) (v % 2 ^ 10)) (Order (v % 2 ^ 10)) (End (v % 2 ^ 28)) p) e ∙ ap (λ s. unspared s p (Order (v % 2 ^ 10))) f ∙ ap (λ x. Ok (Order x)) g
-decode-number (End count) p h =
+decode_number (End count) p h =
     let v = 15 * 2 ^ 28 + count in
     let e : v / 2 ^ 28 ≡ 15 = omega arith in
     let g : v % 2 ^ 28 ≡ count = omega arith in
@@ -93,28 +93,28 @@ chosen false u1 false u2 false u3 true h l o e w p k = inr (inr (inr (refl, refl
 chosen false u1 false u2 false u3 false h l o e w p k = absurd (never _ _ k)
 
 -- what is decoded has the number that it came from
-pub number-decode : (v p : ℕ) (w : Word) → v < 2 ^ 32 → decoded v p ≡ Ok w → number w ≡ v
-number-decode v p w fits k =
+pub number_decode : (v p : ℕ) (w : Word) → v < 2 ^ 32 → decoded v p ≡ Ok w → number w ≡ v
+number_decode v p w fits k =
     ⊎_elim
     (λ c. ap number (sym c.2) ∙ at_head (eqb-true (v / 2 ^ 28) 1 c.0) (eqb-true (v / 2 ^ 10 % 2 ^ 18) 0 c.1))
     (⊎_elim
-    (λ c. ap number (sym c.2) ∙ at-link (eqb-true (v / 2 ^ 28) 2 c.0) (eqb-true (v / 2 ^ 20 % 2 ^ 8) 0 c.1))
+    (λ c. ap number (sym c.2) ∙ at_link (eqb-true (v / 2 ^ 28) 2 c.0) (eqb-true (v / 2 ^ 20 % 2 ^ 8) 0 c.1))
     (⊎_elim
-    (λ c. ap number (sym c.2) ∙ at-order (eqb-true (v / 2 ^ 28) 3 c.0) (eqb-true (v / 2 ^ 10 % 2 ^ 18) 0 c.1))
-    (λ c. ap number (sym c.2) ∙ at-end (eqb-true (v / 2 ^ 28) 15 c.0))))
+    (λ c. ap number (sym c.2) ∙ at_order (eqb-true (v / 2 ^ 28) 3 c.0) (eqb-true (v / 2 ^ 10 % 2 ^ 18) 0 c.1))
+    (λ c. ap number (sym c.2) ∙ at_end_lem (eqb-true (v / 2 ^ 28) 15 c.0))))
     (chosen (eqb (v / 2 ^ 28) 1) (eqb (v / 2 ^ 10 % 2 ^ 18) 0) (eqb (v / 2 ^ 28) 2) (eqb (v / 2 ^ 20 % 2 ^ 8) 0) (eqb (v / 2 ^ 28) 3) (eqb (v / 2 ^ 10 % 2 ^ 18) 0) (eqb (v / 2 ^ 28) 15) (Head (v % 2 ^ 10)) (Link (v / 2 ^ 10 % 2 ^ 10) (v % 2 ^ 10)) (Order (v % 2 ^ 10)) (End (v % 2 ^ 28)) w p k) where
       at_head : v / 2 ^ 28 ≡ 1 → v / 2 ^ 10 % 2 ^ 18 ≡ 0 → 1 * 2 ^ 28 + v % 2 ^ 10 ≡ v
       at_head e f = omega arith
 
-      at-link : v / 2 ^ 28 ≡ 2 → v / 2 ^ 20 % 2 ^ 8 ≡ 0 → 2 * 2 ^ 28 + v / 2 ^ 10 % 2 ^ 10 * 2 ^ 10 + v % 2 ^ 10 ≡ v
-      at-link e f = omega arith
+      at_link : v / 2 ^ 28 ≡ 2 → v / 2 ^ 20 % 2 ^ 8 ≡ 0 → 2 * 2 ^ 28 + v / 2 ^ 10 % 2 ^ 10 * 2 ^ 10 + v % 2 ^ 10 ≡ v
+      at_link e f = omega arith
 
-      at-order : v / 2 ^ 28 ≡ 3 → v / 2 ^ 10 % 2 ^ 18 ≡ 0 → 3 * 2 ^ 28 + v % 2 ^ 10 ≡ v
-      at-order e f = omega arith
+      at_order : v / 2 ^ 28 ≡ 3 → v / 2 ^ 10 % 2 ^ 18 ≡ 0 → 3 * 2 ^ 28 + v % 2 ^ 10 ≡ v
+      at_order e f = omega arith
 
-      at-end : v / 2 ^ 28 ≡ 15 → 15 * 2 ^ 28 + v % 2 ^ 28 ≡ v
-      at-end e = omega arith
+      at_end_lem : v / 2 ^ 28 ≡ 15 → 15 * 2 ^ 28 + v % 2 ^ 28 ≡ v
+      at_end_lem e = omega arith
 
-pub encoded-append : (xs ys : List Word) → encoded (xs ++ ys) ≡ encoded xs ++ encoded ys
-encoded-append [] ys = refl
-encoded-append (x ∷ xs) ys = ap (λ l. four_bytes (number x) ++ l) (encoded-append xs ys) ∙ sym (append_assoc (four_bytes (number x)) (encoded xs) (encoded ys))
+pub encoded_append : (xs ys : List Word) → encoded (xs ++ ys) ≡ encoded xs ++ encoded ys
+encoded_append [] ys = refl
+encoded_append (x ∷ xs) ys = ap (λ l. four_bytes (number x) ++ l) (encoded_append xs ys) ∙ sym (append_assoc (four_bytes (number x)) (encoded xs) (encoded ys))

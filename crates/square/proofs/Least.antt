@@ -16,7 +16,7 @@ use Rattle.square.specs.Plans.{site_of, store_of}
 use Rattle.square.specs.Squares.{Matrix, Site, Lengths, Square, bare}
 use Rattle.square.specs.Stores.{Closes, Idle, Serves, LeastStore}
 use Rattle.square.proofs.Below.{any_found, below_suc}
-use Rattle.square.proofs.Lives.{lived-append, unless-keeps, unless-leads, none_from}
+use Rattle.square.proofs.Lives.{lived_append, unless_keeps, unless_leads, none_from}
 use Rattle.square.proofs.Places.{closes}
 use Rattle.square.proofs.Serving.{serves}
 
@@ -24,9 +24,9 @@ or_off : (a : Bool) → (a || false) ≡ a
 or_off true = refl
 or_off false = refl
 
-and-off : (u : Bool) → (u && false) ≡ false
-and-off true = refl
-and-off false = refl
+and_off : (u : Bool) → (u && false) ≡ false
+and_off true = refl
+and_off false = refl
 
 abbrev mark : Bool → Mark
 mark b = record { on = b }
@@ -34,7 +34,7 @@ mark b = record { on = b }
 pub marks_idle : Idle marks
 marks_idle = record {
   row = λ a d v. ap mark (or_off a.on);
-  column = λ a u d. ap mark (ap (λ b. a.on || b) (and-off u.on) ∙ or_off a.on);
+  column = λ a u d. ap mark (ap (λ b. a.on || b) (and_off u.on) ∙ or_off a.on);
 }
 
 module _ (f : Site) (store : ℕ → ℕ → Bool) (close : Closes f store) where
@@ -46,8 +46,8 @@ module _ (f : Site) (store : ℕ → ℕ → Bool) (close : Closes f store) wher
     fills : (c i j : ℕ) → 1 ≤ c → c ≤ k → c < j → j < i → i ≤ f.size → store i c ≡ true → store j c ≡ true → (w.numbers i j).on ≡ true
 
   -- the columns up to the next are whole
-  column-on : (k : ℕ) (w : Work Mark) → Reached k w → (i j : ℕ) → 1 ≤ j → j ≤ suc k → j < i → i ≤ f.size → store i j ≡ true → (w.numbers i j).on ≡ true
-  column-on k w r i j low b l h e =
+  column_on : (k : ℕ) (w : Work Mark) → Reached k w → (i j : ℕ) → 1 ≤ j → j ≤ suc k → j < i → i ≤ f.size → store i j ≡ true → (w.numbers i j).on ≡ true
+  column_on k w r i j low b l h e =
       let both : ℕ → Bool = λ c. store i c && store j c in
       ⊎_elim (λ t. r.links i j low l h t)
       (λ t. let found = any_found both j t in
@@ -57,8 +57,8 @@ module _ (f : Site) (store : ℕ → ℕ → Bool) (close : Closes f store) wher
       r.fills c i j (omega (arith, first)) (omega (arith, found.1)) found.1 l h parts.0 parts.1)
       (or_cases (f.linked (f.label i) (f.label j)) (any_below both j) (sym (close.column i j low l h) ∙ e))
 
-  reduced-on : (k : ℕ) (w : Work Mark) → Reached k w → Reached (suc k) (record { numbers = reduced marks (suc k) w.numbers; stuck = None })
-  reduced-on k w r = record {
+  reduced_on : (k : ℕ) (w : Work Mark) → Reached k w → Reached (suc k) (record { numbers = reduced marks (suc k) w.numbers; stuck = None })
+  reduced_on k w r = record {
     fine = refl;
     diagonal = λ i low h. stays i i (r.diagonal i low h);
     links = λ i j low l h e. stays i j (r.links i j low l h e);
@@ -80,21 +80,21 @@ module _ (f : Site) (store : ℕ → ℕ → Bool) (close : Closes f store) wher
           (cond-true (ltb (suc k) j && leb j i) (mark ((m i j).on || ((m i (suc k)).on && (m j (suc k)).on))) (m i j)
           (and_from _ _ (lt-ltb (suc k) j b) (le-leb j i (omega arith))))
           ∙ or_right (m i j).on ((m i (suc k)).on && (m j (suc k)).on)
-          (and_from _ _ (column-on k w r i (suc k) (omega arith) (omega arith) (omega arith) h e)
-          (column-on k w r j (suc k) (omega arith) (omega arith) b (omega arith) g))
+          (and_from _ _ (column_on k w r i (suc k) (omega arith) (omega arith) (omega arith) h e)
+          (column_on k w r j (suc k) (omega arith) (omega arith) b (omega arith) g))
 
-  eliminated-on : (m : Matrix Mark) → ((i : ℕ) → 1 ≤ i → i ≤ f.size → (m i i).on ≡ true)
+  eliminated_on : (m : Matrix Mark) → ((i : ℕ) → 1 ≤ i → i ≤ f.size → (m i i).on ≡ true)
       → ((i j : ℕ) → 1 ≤ j → j < i → i ≤ f.size → f.linked (f.label i) (f.label j) ≡ true → (m i j).on ≡ true)
       → (k : ℕ) → k ≤ f.size → Reached k (eliminated marks m k)
-  eliminated-on m d l zero h = record { fine = refl; diagonal = d; links = l; fills = λ c i j low b. absurd (omega arith) }
-  eliminated-on m d l (suc k) h =
+  eliminated_on m d l zero h = record { fine = refl; diagonal = d; links = l; fills = λ c i j low b. absurd (omega arith) }
+  eliminated_on m d l (suc k) h =
       let w = eliminated marks m k in
-      let r = eliminated-on m d l k (omega arith) in
+      let r = eliminated_on m d l k (omega arith) in
       let good = ap (λ b. eqb (cond b 0 1) 0) (r.diagonal (suc k) (omega arith) h) in
       subst (λ at. Reached (suc k) (stepped marks (suc k) w.numbers at)) (sym r.fine)
       (subst (λ b. Reached (suc k) (cond b (record { numbers = reduced marks (suc k) w.numbers; stuck = None })
       (record { numbers = w.numbers; stuck = Some (suc k, marks.judged (w.numbers (suc k) (suc k))) })))
-      (sym good) (reduced-on k w r))
+      (sym good) (reduced_on k w r))
 
   -- calls that set on the first m places of row i, and those of the first n rows; what is neither diagonal nor link is refused
   row_on : ℕ → ℕ → List (Call Mark)
@@ -121,23 +121,23 @@ module _ (f : Site) (store : ℕ → ℕ → Bool) (close : Closes f store) wher
   abbrev set : Square Mark → ℕ → ℕ → Square Mark
   set q a b = (called marks f long q (Set a b (mark true))).0
 
-  set-keeps-live : (q : Square Mark) (a b : ℕ) → Live q → Live (set q a b)
-  set-keeps-live q a b p = unless-keeps Live (set_refusal f long q.standing a b) q _ p (λ _. p)
+  set_keeps_live : (q : Square Mark) (a b : ℕ) → Live q → Live (set q a b)
+  set_keeps_live q a b p = unless_keeps Live (set_refusal f long q.standing a b) q _ p (λ _. p)
 
-  set-keeps-on : (i j : ℕ) (q : Square Mark) (a b : ℕ) → On i j q → On i j (set q a b)
-  set-keeps-on i j q a b p =
-      unless-keeps (On i j) (set_refusal f long q.standing a b) q _ p
+  set_keeps_on : (i j : ℕ) (q : Square Mark) (a b : ℕ) → On i j q → On i j (set q a b)
+  set_keeps_on i j q a b p =
+      unless_keeps (On i j) (set_refusal f long q.standing a b) q _ p
       (λ _. cond_both (eqb (row_of f a b) i && eqb (column_of f a b) j) (mark true) (q.entered i j) (λ x. x.on ≡ true) (λ _. refl) (λ _. p))
 
   -- the diagonal, or linked on the sheet
   abbrev Given : ℕ → ℕ → Type 0
   Given i j = (eqb i j || f.linked (f.label i) (f.label j)) ≡ true
 
-  is-long : eqb f.places f.places ≡ true
-  is-long = eq-eqb f.places f.places refl
+  is_long : eqb f.places f.places ≡ true
+  is_long = eq-eqb f.places f.places refl
 
-  is-inside : (i : ℕ) → 1 ≤ i → i ≤ f.size → is_outside f (f.label i) ≡ false
-  is-inside i low h =
+  is_inside : (i : ℕ) → 1 ≤ i → i ≤ f.size → is_outside f (f.label i) ≡ false
+  is_inside i low h =
       let range = close.labels i low h in
       not_from_true _ (and_from _ _ (lt-ltb 0 (f.label i) range.0) (le-leb (f.label i) f.size range.1))
 
@@ -151,13 +151,13 @@ module _ (f : Site) (store : ℕ → ℕ → Bool) (close : Closes f store) wher
       not_from_true (eqb a b || f.linked a b)
       (⊎_elim (λ (e : eqb i j ≡ true). or_left (eqb a b) (f.linked a b) (eq-eqb a b (ap f.label (eqb-true i j e))))
       (λ e. or_right (eqb a b) (f.linked a b) e) (or_cases (eqb i j) (f.linked a b) t)) in
-      let out : (is_outside f a || is_outside f b) ≡ false = or_from _ _ (is-inside i (omega arith) h) (is-inside j low (omega arith)) in
+      let out : (is_outside f a || is_outside f b) ≡ false = or_from _ _ (is_inside i (omega arith) h) (is_inside j low (omega arith)) in
       let here : (eqb (row_of f a b) i && eqb (column_of f a b) j) ≡ true =
       and_from _ _ (eq-eqb (row_of f a b) i (omega arith)) (eq-eqb (column_of f a b) j (omega arith)) in
       let none : set_refusal f long q.standing a b ≡ None =
       none_from ((is_bare q.standing, NotCleared) ∷ (not (eqb f.places f.places), WrongLength)
-      ∷ (is_outside f a || is_outside f b, OutOfRange) ∷ (are_apart f a b, NotLinked) ∷ []) (live, (not_from_true _ is-long, (out, (apart, tt)))) in
-      unless-leads (On i j) (set_refusal f long q.standing a b) q _ none (ap (λ u. (cond u (mark true) (q.entered i j)).on) here)
+      ∷ (is_outside f a || is_outside f b, OutOfRange) ∷ (are_apart f a b, NotLinked) ∷ []) (live, (not_from_true _ is_long, (out, (apart, tt)))) in
+      unless_leads (On i j) (set_refusal f long q.standing a b) q _ none (ap (λ u. (cond u (mark true) (q.entered i j)).on) here)
 
   -- what each set keeps, rows of them keep
   row_keeps : (P : Square Mark → Type 0) → ((q : Square Mark) (a b : ℕ) → P q → P (set q a b))
@@ -166,34 +166,34 @@ module _ (f : Site) (store : ℕ → ℕ → Bool) (close : Closes f store) wher
   row_keeps P keeps q i zero p = p
   row_keeps P keeps q i (suc m) p = row_keeps P keeps (set q (f.label i) (f.label (suc m))) i m (keeps q (f.label i) (f.label (suc m)) p)
 
-  rows-keep : (P : Square Mark → Type 0) → ((q : Square Mark) (a b : ℕ) → P q → P (set q a b))
+  rows_keep : (P : Square Mark → Type 0) → ((q : Square Mark) (a b : ℕ) → P q → P (set q a b))
       → (q : Square Mark) (n : ℕ) → P q → P (after q (rows_on n))
   unfolding rows_on
-  rows-keep P keeps q zero p = p
-  rows-keep P keeps q (suc n) p =
-      subst P (sym (lived-append (called marks f long) q (row_on (suc n) (suc n)) (rows_on n)))
-      (rows-keep P keeps (after q (row_on (suc n) (suc n))) n (row_keeps P keeps q (suc n) (suc n) p))
+  rows_keep P keeps q zero p = p
+  rows_keep P keeps q (suc n) p =
+      subst P (sym (lived_append (called marks f long) q (row_on (suc n) (suc n)) (rows_on n)))
+      (rows_keep P keeps (after q (row_on (suc n) (suc n))) n (row_keeps P keeps q (suc n) (suc n) p))
 
-  row-sets : (q : Square Mark) (i m : ℕ) → Live q → i ≤ f.size → m ≤ i → (j : ℕ) → 1 ≤ j → j ≤ m → Given i j → On i j (after q (row_on i m))
+  row_sets : (q : Square Mark) (i m : ℕ) → Live q → i ≤ f.size → m ≤ i → (j : ℕ) → 1 ≤ j → j ≤ m → Given i j → On i j (after q (row_on i m))
   unfolding row_on
-  row-sets q i zero live h b j low l t = absurd (omega arith)
-  row-sets q i (suc m) live h b j low l t =
+  row_sets q i zero live h b j low l t = absurd (omega arith)
+  row_sets q i (suc m) live h b j low l t =
       let a = f.label i in
       let r = set q a (f.label (suc m)) in
-      ⊎_elim (λ (c : j < suc m). row-sets r i m (set-keeps-live q a (f.label (suc m)) live) h (omega arith) j low (omega arith) t)
-      (λ (c : j ≡ suc m). row_keeps (On i j) (set-keeps-on i j) r i m
+      ⊎_elim (λ (c : j < suc m). row_sets r i m (set_keeps_live q a (f.label (suc m)) live) h (omega arith) j low (omega arith) t)
+      (λ (c : j ≡ suc m). row_keeps (On i j) (set_keeps_on i j) r i m
       (subst (λ k. On i j (set q a (f.label k))) c (set_on q i j live low (omega arith) h t)))
       (below_suc j (suc m) (omega arith))
 
-  rows-set : (q : Square Mark) (n : ℕ) → Live q → n ≤ f.size → (i j : ℕ) → 1 ≤ j → j ≤ i → i ≤ n → Given i j → On i j (after q (rows_on n))
+  rows_set : (q : Square Mark) (n : ℕ) → Live q → n ≤ f.size → (i j : ℕ) → 1 ≤ j → j ≤ i → i ≤ n → Given i j → On i j (after q (rows_on n))
   unfolding rows_on
-  rows-set q zero live b i j low l h t = absurd (omega arith)
-  rows-set q (suc n) live b i j low l h t =
+  rows_set q zero live b i j low l h t = absurd (omega arith)
+  rows_set q (suc n) live b i j low l h t =
       let r = after q (row_on (suc n) (suc n)) in
-      subst (On i j) (sym (lived-append (called marks f long) q (row_on (suc n) (suc n)) (rows_on n)))
-      (⊎_elim (λ (c : i < suc n). rows-set r n (row_keeps Live set-keeps-live q (suc n) (suc n) live) (omega arith) i j low l (omega arith) t)
-      (λ (c : i ≡ suc n). rows-keep (On i j) (set-keeps-on i j) r n
-      (subst (λ k. On i j (after q (row_on k k))) c (row-sets q i i live (omega arith) (omega arith) j low l t)))
+      subst (On i j) (sym (lived_append (called marks f long) q (row_on (suc n) (suc n)) (rows_on n)))
+      (⊎_elim (λ (c : i < suc n). rows_set r n (row_keeps Live set_keeps_live q (suc n) (suc n) live) (omega arith) i j low l (omega arith) t)
+      (λ (c : i ≡ suc n). rows_keep (On i j) (set_keeps_on i j) r n
+      (subst (λ k. On i j (after q (row_on k k))) c (row_sets q i i live (omega arith) (omega arith) j low l t)))
       (below_suc i (suc n) (omega arith)))
 
   -- clear, set on, eliminate
@@ -206,51 +206,51 @@ module _ (f : Site) (store : ℕ → ℕ → Bool) (close : Closes f store) wher
   entered : Square Mark
   entered = after cleared (rows_on f.size)
 
-  entered-live : Live entered
+  entered_live : Live entered
   unfolding entered cleared
-  entered-live = rows-keep Live set-keeps-live cleared f.size refl
+  entered_live = rows_keep Live set_keeps_live cleared f.size refl
 
   entered_on : (i j : ℕ) → 1 ≤ j → j ≤ i → i ≤ f.size → Given i j → On i j entered
   unfolding entered cleared
-  entered_on i j low l h t = rows-set cleared f.size refl (omega arith) i j low l h t
+  entered_on i j low l h t = rows_set cleared f.size refl (omega arith) i j low l h t
 
   abbrev worked : Work Mark
   worked = eliminated marks entered.entered f.size
 
-  clear-ends : (called marks f long (bare marks) Clear).0 ≡ cleared
+  clear_ends : (called marks f long (bare marks) Clear).0 ≡ cleared
   unfolding cleared
-  clear-ends = simp is-long
+  clear_ends = simp is_long
 
-  eliminate-ends : (called marks f long entered Eliminate).0.worked ≡ worked.numbers
-  eliminate-ends = simp (entered-live, is-long)
+  eliminate_ends : (called marks f long entered Eliminate).0.worked ≡ worked.numbers
+  eliminate_ends = simp (entered_live, is_long)
 
-  witness-ends : (after (bare marks) witness).worked ≡ worked.numbers
+  witness_ends : (after (bare marks) witness).worked ≡ worked.numbers
   unfolding witness entered
-  witness-ends =
-      ap (λ (q : Square Mark). (after q (rows_on f.size ++ (Eliminate ∷ []))).worked) clear-ends
-      ∙ ap (λ (q : Square Mark). q.worked) (lived-append (called marks f long) cleared (rows_on f.size) (Eliminate ∷ []))
-      ∙ eliminate-ends
+  witness_ends =
+      ap (λ (q : Square Mark). (after q (rows_on f.size ++ (Eliminate ∷ []))).worked) clear_ends
+      ∙ ap (λ (q : Square Mark). q.worked) (lived_append (called marks f long) cleared (rows_on f.size) (Eliminate ∷ []))
+      ∙ eliminate_ends
 
   reached : Reached f.size worked
-  reached = eliminated-on entered.entered
+  reached = eliminated_on entered.entered
       (λ i low h. entered_on i i low (omega arith) h (or_left (eqb i i) (f.linked (f.label i) (f.label i)) (eq-eqb i i refl)))
       (λ i j low l h e. entered_on i j low (omega arith) h (or_right (eqb i j) (f.linked (f.label i) (f.label j)) e))
       f.size (omega arith)
 
-  witness-on : (i j : ℕ) → 1 ≤ j → j ≤ i → i ≤ f.size → store i j ≡ true → ((after (bare marks) witness).worked i j).on ≡ true
-  witness-on i j low l h e =
-      ap (λ (m : Matrix Mark). (m i j).on) witness-ends
+  witness_on : (i j : ℕ) → 1 ≤ j → j ≤ i → i ≤ f.size → store i j ≡ true → ((after (bare marks) witness).worked i j).on ≡ true
+  witness_on i j low l h e =
+      ap (λ (m : Matrix Mark). (m i j).on) witness_ends
       ∙ ⊎_elim (λ (d : i ≡ j). subst (λ k. (worked.numbers i k).on ≡ true) d (reached.diagonal i (omega arith) h))
-      (λ (d : i ≡ j → ⊥). column-on f.size worked reached i j low (omega arith) (omega (arith, d)) h e)
+      (λ (d : i ≡ j → ⊥). column_on f.size worked reached i j low (omega arith) (omega (arith, d)) h e)
       (cases_eq i j)
 
-  close-least : (other : ℕ → ℕ → Bool) → Serves marks f other → (i j : ℕ) → 1 ≤ j → j ≤ i → i ≤ f.size → store i j ≡ true → other i j ≡ true
-  close-least other served i j low l h e =
+  close_least : (other : ℕ → ℕ → Bool) → Serves marks f other → (i j : ℕ) → 1 ≤ j → j ≤ i → i ≤ f.size → store i j ≡ true → other i j ≡ true
+  close_least other served i j low l h e =
       ⊎_elim (λ t. t)
       (λ t. absurd (both_ways ((after (bare marks) witness).worked i j).on
-      (ap (λ (x : Mark). x.on) (served long witness i j low l h t)) (witness-on i j low l h e)))
+      (ap (λ (x : Mark). x.on) (served long witness i j low l h t)) (witness_on i j low l h e)))
       (cases_Bool (other i j))
 
 -- the places of a plan are the least store in marks
 pub least_store : (a : Arrays) → Keeps a → LeastStore marks a
-least_store a keeps = record { serves = serves marks marks_idle a keeps; least = close-least (site_of a) (store_of a) (closes a keeps) }
+least_store a keeps = record { serves = serves marks marks_idle a keeps; least = close_least (site_of a) (store_of a) (closes a keeps) }

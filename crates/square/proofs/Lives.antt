@@ -10,35 +10,35 @@ use Rattle.square.specs.Refusals.{first_refusal}
 use Rattle.square.specs.Squares.{Site, Lengths, Square}
 
 -- what each call keeps, every life keeps
-pub lived-keeps : {Q C A : Type 0} (step : Q → C → Q × A) (P : Q → Type 0) → ((q : Q) (c : C) → P q → P (step q c).0)
+pub lived_keeps : {Q C A : Type 0} (step : Q → C → Q × A) (P : Q → Type 0) → ((q : Q) (c : C) → P q → P (step q c).0)
     → (q : Q) (calls : List C) → P q → P (lived step q calls).0
-lived-keeps step P keeps q [] p = p
-lived-keeps step P keeps q (c ∷ cs) p = lived-keeps step P keeps (step q c).0 cs (keeps q c p)
+lived_keeps step P keeps q [] p = p
+lived_keeps step P keeps q (c ∷ cs) p = lived_keeps step P keeps (step q c).0 cs (keeps q c p)
 
 -- a life after a life
-pub lived-append : {Q C A : Type 0} (step : Q → C → Q × A) (q : Q) (cs ds : List C) → (lived step q (cs ++ ds)).0 ≡ (lived step (lived step q cs).0 ds).0
-lived-append step q [] ds = refl
-lived-append step q (c ∷ cs) ds = lived-append step (step q c).0 cs ds
+pub lived_append : {Q C A : Type 0} (step : Q → C → Q × A) (q : Q) (cs ds : List C) → (lived step q (cs ++ ds)).0 ≡ (lived step (lived step q cs).0 ds).0
+lived_append step q [] ds = refl
+lived_append step q (c ∷ cs) ds = lived_append step (step q c).0 cs ds
 
 -- what holds of a square holds after a call if it holds where the call leads that is not refused
-pub unless-keeps : {X : Type 0} (P : Square X → Type 0) (r : Option Refusal) (q : Square X) (t : State X)
+pub unless_keeps : {X : Type 0} (P : Square X → Type 0) (r : Option Refusal) (q : Square X) (t : State X)
     → P q → (r ≡ None → P t.0) → P (unless r q t).0
-unless-keeps P None q t p h = h refl
-unless-keeps P (Some r) q t p h = p
+unless_keeps P None q t p h = h refl
+unless_keeps P (Some r) q t p h = p
 
-pub unless-leads : {X : Type 0} (P : Square X → Type 0) (r : Option Refusal) (q : Square X) (t : State X) → r ≡ None → P t.0 → P (unless r q t).0
-unless-leads P r q t e p = subst (λ u. P (unless u q t).0) (sym e) p
+pub unless_leads : {X : Type 0} (P : Square X → Type 0) (r : Option Refusal) (q : Square X) (t : State X) → r ≡ None → P t.0 → P (unless r q t).0
+unless_leads P r q t e p = subst (λ u. P (unless u q t).0) (sym e) p
 
-pub solve-unless-keeps : {X : Type 0} (P : Square X → Type 0) (r : Option Refusal) (q : Square X) (t : Square X × SolvingAnswer X)
+pub solve_unless_keeps : {X : Type 0} (P : Square X → Type 0) (r : Option Refusal) (q : Square X) (t : Square X × SolvingAnswer X)
     → P q → (r ≡ None → P t.0) → P (solve_unless r q t).0
-solve-unless-keeps P None q t p h = h refl
-solve-unless-keeps P (Some r) q t p h = p
+solve_unless_keeps P None q t p h = h refl
+solve_unless_keeps P (Some r) q t p h = p
 
 -- where nothing refuses, none of the conditions holds
-pub none-holds : (cs : List (Bool × Refusal)) → first_refusal cs ≡ None → All (λ c. c.0 ≡ false) cs
-none-holds [] e = tt
-none-holds ((true, r) ∷ cs) e = let z : ◌≡◌ {A = ℕ} 0 1 = cc in absurd (omega arith)
-none-holds ((false, r) ∷ cs) e = (refl, none-holds cs e)
+pub none_holds : (cs : List (Bool × Refusal)) → first_refusal cs ≡ None → All (λ c. c.0 ≡ false) cs
+none_holds [] e = tt
+none_holds ((true, r) ∷ cs) e = let z : ◌≡◌ {A = ℕ} 0 1 = cc in absurd (omega arith)
+none_holds ((false, r) ∷ cs) e = (refl, none_holds cs e)
 
 pub none_from : (cs : List (Bool × Refusal)) → All (λ c. c.0 ≡ false) cs → first_refusal cs ≡ None
 none_from [] h = refl
@@ -58,7 +58,7 @@ pub record Settable (f : Site) (a b : ℕ) : Type 0 where
 
 pub settable : (f : Site) (l : Lengths) (s : Standing) (a b : ℕ) → set_refusal f l s a b ≡ None → Settable f a b
 settable f l s a b e =
-    let held = (none-holds ((is_bare s, NotCleared) ∷ (not (eqb l.entered f.places), WrongLength)
+    let held = (none_holds ((is_bare s, NotCleared) ∷ (not (eqb l.entered f.places), WrongLength)
     ∷ (is_outside f a || is_outside f b, OutOfRange) ∷ (are_apart f a b, NotLinked) ∷ []) e).1.1 in
     let out = or_parts (is_outside f a) (is_outside f b) held.0 in
     record {

@@ -7,7 +7,7 @@ use Rattle.square.specs.Balance.{total}
 use Rattle.square.specs.Elimination.{reduced}
 use Rattle.square.specs.Solution.{Vector, taken_from}
 use Rattle.square.specs.Squares.{Matrix}
-use Rattle.square.proofs.Sums.{left-swap, total-same, total-plus, total-times}
+use Rattle.square.proofs.Sums.{left_swap, total_same, total_plus, total_times}
 
 -- the whole matrix that its lower triangle gives
 abbrev pub symmetric : {X : Type 0} → Matrix X → Matrix X
@@ -26,14 +26,14 @@ module _ {X : Type 0} (s : Solvers X) (r : Ring X) (laws : Field s r) where
   plus_times a b c = laws.times_commutes (a ⊕ b) c ∙ laws.times_plus c a b ∙ ap₂ r.plus (laws.times_commutes c a) (laws.times_commutes c b)
 
   -- what is taken is the sum
-  pub taken-plus : (w : Matrix X) (k : ℕ) (y : Vector X) (b : X) (i c : ℕ)
+  pub taken_plus : (w : Matrix X) (k : ℕ) (y : Vector X) (b : X) (i c : ℕ)
       → taken_from s w k y b i c ⊕ total s r (λ j. w j k ⊗ y j) i c ≡ b
-  taken-plus w k y b i zero = laws.plus_nothing b
-  taken-plus w k y b i (suc c) =
+  taken_plus w k y b i zero = laws.plus_nothing b
+  taken_plus w k y b i (suc c) =
       let t = s.taken b (w i k) (y i) in
       let rest = total s r (λ j. w j k ⊗ y j) (suc i) c in
-      left-swap s r laws (taken_from s w k y t (suc i) c) (w i k ⊗ y i) rest
-      ∙ ap (λ x. (w i k ⊗ y i) ⊕ x) (taken-plus w k y t (suc i) c)
+      left_swap s r laws (taken_from s w k y t (suc i) c) (w i k ⊗ y i) rest
+      ∙ ap (λ x. (w i k ⊗ y i) ⊕ x) (taken_plus w k y t (suc i) c)
       ∙ laws.plus_commutes (w i k ⊗ y i) t
       ∙ ap (λ x. x ⊕ (w i k ⊗ y i)) (laws.takes b (w i k) (y i))
       ∙ laws.minus_plus b (w i k ⊗ y i)
@@ -69,34 +69,34 @@ module _ {X : Type 0} (s : Solvers X) (r : Ring X) (laws : Field s r) where
       rest : X
       rest = total s r (λ j. m j k ⊗ y j) (suc k) c
 
-      pivot-row : total s r (λ j. symmetric m k j ⊗ y j) k (suc c) ≡ z k
-      pivot-row =
+      pivot_row : total s r (λ j. symmetric m k j ⊗ y j) k (suc c) ≡ z k
+      pivot_row =
           let high : max k k ≡ k = omega arith in
           let low : min k k ≡ k = omega arith in
           ap₂ r.plus
           (ap₂ (λ a b. m a b ⊗ y k) high low ∙ ap (λ x. m k k ⊗ x) (last ∙ laws.times_commutes t v) ∙ sym (laws.times_associates (m k k) v t)
           ∙ ap (λ x. x ⊗ t) (laws.inverts (m k k) pivot) ∙ laws.times_commutes r.one t ∙ laws.times_one t)
-          (total-same s r laws (λ j. symmetric m k j ⊗ y j) (λ j. m j k ⊗ y j) (suc k) c
+          (total_same s r laws (λ j. symmetric m k j ⊗ y j) (λ j. m j k ⊗ y j) (suc k) c
           (λ j l q. let hi : max k j ≡ j = omega arith in let lo : min k j ≡ k = omega arith in ap₂ (λ a b. m a b ⊗ y j) hi lo))
           ∙ sum
 
-      later-row : (i : ℕ) → k < i
+      later_row : (i : ℕ) → k < i
           → total s r (λ j. symmetric (reduced s.base k m) i j ⊗ y j) (suc k) c ≡ s.base.updated (z i) (m i k) (m k k) (z k)
           → total s r (λ j. symmetric m i j ⊗ y j) k (suc c) ≡ z i
       unfolding rest
-      later-row i l reduced-row =
+      later_row i l reduced-row =
           let u = m i k in
           let R : Vector X = λ j. symmetric (reduced s.base k m) i j in
           let hi : max i k ≡ i = omega arith in
           let lo : min i k ≡ k = omega arith in
           let b = (z k ⊗ v) ⊗ u in
           let split : total s r (λ j. symmetric m i j ⊗ y j) (suc k) c ≡ total s r (λ j. R j ⊗ y j) (suc k) c ⊕ (u ⊗ (v ⊗ rest)) =
-          total-same s r laws (λ j. symmetric m i j ⊗ y j) (λ j. (R j ⊗ y j) ⊕ (u ⊗ (v ⊗ (m j k ⊗ y j)))) (suc k) c
+          total_same s r laws (λ j. symmetric m i j ⊗ y j) (λ j. (R j ⊗ y j) ⊕ (u ⊗ (v ⊗ (m j k ⊗ y j)))) (suc k) c
           (λ j lj q. ap (λ x. x ⊗ y j) (entry i j l lj) ∙ plus_times (R j) (u ⊗ (v ⊗ m j k)) (y j)
           ∙ ap (λ x. (R j ⊗ y j) ⊕ x) (laws.times_associates u (v ⊗ m j k) (y j) ∙ ap (λ x. u ⊗ x) (laws.times_associates v (m j k) (y j))))
-          ∙ total-plus s r laws (λ j. R j ⊗ y j) (λ j. u ⊗ (v ⊗ (m j k ⊗ y j))) (suc k) c
+          ∙ total_plus s r laws (λ j. R j ⊗ y j) (λ j. u ⊗ (v ⊗ (m j k ⊗ y j))) (suc k) c
           ∙ ap (λ x. total s r (λ j. R j ⊗ y j) (suc k) c ⊕ x)
-          (total-times s r laws u (λ j. v ⊗ (m j k ⊗ y j)) (suc k) c ∙ ap (λ x. u ⊗ x) (total-times s r laws v (λ j. m j k ⊗ y j) (suc k) c)) in
+          (total_times s r laws u (λ j. v ⊗ (m j k ⊗ y j)) (suc k) c ∙ ap (λ x. u ⊗ x) (total_times s r laws v (λ j. m j k ⊗ y j) (suc k) c)) in
           let row : total s r (λ j. R j ⊗ y j) (suc k) c ≡ r.minus (z i) b = reduced-row ∙ laws.updates (z i) u (m k k) (z k) pivot in
           let both : (u ⊗ y k) ⊕ (u ⊗ (v ⊗ rest)) ≡ b =
           ap (λ x. (u ⊗ x) ⊕ (u ⊗ (v ⊗ rest))) (last ∙ laws.times_commutes t v)
@@ -105,7 +105,7 @@ module _ {X : Type 0} (s : Solvers X) (r : Ring X) (laws : Field s r) where
           ∙ laws.times_commutes u (z k ⊗ v) in
           ap₂ (λ a e. (m a e ⊗ y k) ⊕ total s r (λ j. symmetric m i j ⊗ y j) (suc k) c) hi lo
           ∙ ap (λ x. (u ⊗ y k) ⊕ x) (split ∙ ap (λ x. x ⊕ (u ⊗ (v ⊗ rest))) row)
-          ∙ left-swap s r laws (u ⊗ y k) (r.minus (z i) b) (u ⊗ (v ⊗ rest))
+          ∙ left_swap s r laws (u ⊗ y k) (r.minus (z i) b) (u ⊗ (v ⊗ rest))
           ∙ ap (λ x. r.minus (z i) b ⊕ x) both
           ∙ laws.minus_plus (z i) b
 
@@ -114,6 +114,6 @@ module _ {X : Type 0} (s : Solvers X) (r : Ring X) (laws : Field s r) where
           → total s r (λ j. symmetric (reduced s.base k m) i j ⊗ y j) (suc k) c ≡ s.base.updated (z i) (m i k) (m k k) (z k))
           → (i : ℕ) → k ≤ i → i < k + suc c → total s r (λ j. symmetric m i j ⊗ y j) k (suc c) ≡ z i
       schur rows i l h =
-          ⊎_elim (λ (e : k ≡ i). ap (λ a. total s r (λ j. symmetric m a j ⊗ y j) k (suc c)) (sym e) ∙ pivot-row ∙ ap z e)
-          (λ (e : k ≡ i → ⊥). let after : k < i = omega (arith, e) in later-row i after (rows i after h))
+          ⊎_elim (λ (e : k ≡ i). ap (λ a. total s r (λ j. symmetric m a j ⊗ y j) k (suc c)) (sym e) ∙ pivot_row ∙ ap z e)
+          (λ (e : k ≡ i → ⊥). let after : k < i = omega (arith, e) in later_row i after (rows i after h))
           (cases_eq k i)

@@ -12,7 +12,7 @@ use Rattle.square.specs.Plans.{site_of, store_of}
 use Rattle.square.specs.Squares.{Matrix, Site, Lengths, Square, bare}
 use Rattle.square.specs.Stores.{Closes, Idle, Serves, ServesSolving}
 use Rattle.square.proofs.Below.{none_below}
-use Rattle.square.proofs.Lives.{lived-keeps, unless-keeps, solve-unless-keeps, Settable, settable}
+use Rattle.square.proofs.Lives.{lived_keeps, unless_keeps, solve_unless_keeps, Settable, settable}
 use Rattle.square.proofs.Places.{closes}
 
 module _ {X : Type 0} (o : Operations X) (f : Site) (store : ℕ → ℕ → Bool) where
@@ -31,8 +31,8 @@ module _ {X : Type 0} (o : Operations X) (f : Site) (store : ℕ → ℕ → Boo
         (λ (q : i ≡ j → ⊥). omega (arith, q)) (cases_eq i j)
 
     -- of a place outside, one of the two numbers that update it is outside
-    reduced-within : (k : ℕ) (m : Matrix X) → 1 ≤ k → Within m → Within (reduced o k m)
-    reduced-within k m first w i j low l h e =
+    reduced_within : (k : ℕ) (m : Matrix X) → 1 ≤ k → Within m → Within (reduced o k m)
+    reduced_within k m first w i j low l h e =
         cond_both (ltb k j && leb j i) (o.updated (m i j) (m i k) (m k k) (m j k)) (m i j) (λ x. x ≡ o.nothing) beyond (λ _. w i j low l h e)
       where
         beyond : (ltb k j && leb j i) ≡ true → o.updated (m i j) (m i k) (m k k) (m j k) ≡ o.nothing
@@ -49,17 +49,17 @@ module _ {X : Type 0} (o : Operations X) (f : Site) (store : ℕ → ℕ → Boo
 
     stepped_within : (k : ℕ) (m : Matrix X) (stuck : Option (ℕ × ℕ)) → 1 ≤ k → Within m → Within (stepped o k m stuck).numbers
     stepped_within k m None first w =
-        cond_both (eqb (o.judged (m k k)) 0) _ _ (λ (x : Work X). Within x.numbers) (λ _. reduced-within k m first w) (λ _. w)
+        cond_both (eqb (o.judged (m k k)) 0) _ _ (λ (x : Work X). Within x.numbers) (λ _. reduced_within k m first w) (λ _. w)
     stepped_within k m (Some at) first w = w
 
-    eliminated-within : (m : Matrix X) (k : ℕ) → Within m → Within (eliminated o m k).numbers
-    eliminated-within m zero w = w
-    eliminated-within m (suc k) w =
-        let u = eliminated o m k in stepped_within (suc k) u.numbers u.stuck (omega arith) (eliminated-within m k w)
+    eliminated_within : (m : Matrix X) (k : ℕ) → Within m → Within (eliminated o m k).numbers
+    eliminated_within m zero w = w
+    eliminated_within m (suc k) w =
+        let u = eliminated o m k in stepped_within (suc k) u.numbers u.stuck (omega arith) (eliminated_within m k w)
 
     -- numbers are set on the diagonal and at links
-    written-within : (m : Matrix X) (a b : ℕ) (x : X) → Settable f a b → Within m → Within (written m (row_of f a b) (column_of f a b) x)
-    written-within m a b x fits w i j low l h e =
+    written_within : (m : Matrix X) (a b : ℕ) (x : X) → Settable f a b → Within m → Within (written m (row_of f a b) (column_of f a b) x)
+    written_within m a b x fits w i j low l h e =
         cond_both (eqb (row_of f a b) i && eqb (column_of f a b) j) x (m i j) (λ y. y ≡ o.nothing) here (λ _. w i j low l h e)
       where
         la : f.label (f.position a) ≡ a
@@ -93,40 +93,40 @@ module _ {X : Type 0} (o : Operations X) (f : Site) (store : ℕ → ℕ → Boo
             (λ q. absurd (both_ways (store i j) e (close.column i j low ji h ∙ or_left (f.linked (f.label i) (f.label j)) (any_below both j) (link q ji hi lo))))
             (or_cases (eqb a b) (f.linked a b) fits.pair)
 
-    called-within : (l : Lengths) (q : Square X) (c : Call X) → Both q → Both (called o f l q c).0
+    called_within : (l : Lengths) (q : Square X) (c : Call X) → Both q → Both (called o f l q c).0
     unfolding Both
-    called-within l q Clear w = unless-keeps Both (clear_refusal f l) q _ w (λ _. (λ i j _ _ _ _. refl, λ i j _ _ _ _. refl))
-    called-within l q (Set a b x) w =
-        unless-keeps Both (set_refusal f l q.standing a b) q _ w
-        (λ none. (written-within q.entered a b x (settable f l q.standing a b none) w.0, w.1))
-    called-within l q Eliminate w =
-        unless-keeps Both (eliminate_refusal f l q.standing) q _ w (λ _. (w.0, eliminated-within q.entered f.size w.0))
-    called-within l q (Read a b) w = unless-keeps Both (read_refusal f l q.standing a b) q _ w (λ _. w)
-    called-within l q Tally w = w
+    called_within l q Clear w = unless_keeps Both (clear_refusal f l) q _ w (λ _. (λ i j _ _ _ _. refl, λ i j _ _ _ _. refl))
+    called_within l q (Set a b x) w =
+        unless_keeps Both (set_refusal f l q.standing a b) q _ w
+        (λ none. (written_within q.entered a b x (settable f l q.standing a b none) w.0, w.1))
+    called_within l q Eliminate w =
+        unless_keeps Both (eliminate_refusal f l q.standing) q _ w (λ _. (w.0, eliminated_within q.entered f.size w.0))
+    called_within l q (Read a b) w = unless_keeps Both (read_refusal f l q.standing a b) q _ w (λ _. w)
+    called_within l q Tally w = w
 
-    bare-within : Both (bare o)
+    bare_within : Both (bare o)
     unfolding Both
-    bare-within = (λ i j _ _ _ _. refl, λ i j _ _ _ _. refl)
+    bare_within = (λ i j _ _ _ _. refl, λ i j _ _ _ _. refl)
 
-    close-serves : Serves o f store
+    close_serves : Serves o f store
     unfolding Both
-    close-serves l calls i j low ji h e = (lived-keeps (called o f l) Both (called-within l) (bare o) calls bare-within).1 i j low ji h e
+    close_serves l calls i j low ji h e = (lived_keeps (called o f l) Both (called_within l) (bare o) calls bare_within).1 i j low ji h e
 
 module _ {X : Type 0} (s : Solvers X) (f : Site) (store : ℕ → ℕ → Bool) (idle : Idle s.base) (close : Closes f store) where
-  solving-within : (l : Lengths) (q : Square X) (c : SolvingCall X) → Both s.base f store q → Both s.base f store (solving_called s f l q c).0
+  solving_within : (l : Lengths) (q : Square X) (c : SolvingCall X) → Both s.base f store q → Both s.base f store (solving_called s f l q c).0
   unfolding Both
-  solving-within l q (SolvingCall.plain c) w = called-within s.base f store idle close l q c w
-  solving-within l q (SolvingCall.solve right m) w =
-      solve-unless-keeps (Both s.base f store) (solve_refusal f l q.standing (length right) m) q _ w (λ _. w)
+  solving_within l q (SolvingCall.plain c) w = called_within s.base f store idle close l q c w
+  solving_within l q (SolvingCall.solve right m) w =
+      solve_unless_keeps (Both s.base f store) (solve_refusal f l q.standing (length right) m) q _ w (λ _. w)
 
-  close-serves-solving : ServesSolving s f store
+  close_serves_solving : ServesSolving s f store
   unfolding Both
-  close-serves-solving l calls i j low ji h e =
-      (lived-keeps (solving_called s f l) (Both s.base f store) (solving-within l) (bare s.base) calls (bare-within s.base f store idle close)).1 i j low ji h e
+  close_serves_solving l calls i j low ji h e =
+      (lived_keeps (solving_called s f l) (Both s.base f store) (solving_within l) (bare s.base) calls (bare_within s.base f store idle close)).1 i j low ji h e
 
 -- the places of a plan serve
 pub serves : {X : Type 0} (o : Operations X) → Idle o → (a : Arrays) → Keeps a → Serves o (site_of a) (store_of a)
-serves o idle a keeps = close-serves o (site_of a) (store_of a) idle (closes a keeps)
+serves o idle a keeps = close_serves o (site_of a) (store_of a) idle (closes a keeps)
 
 pub serves_solving : {X : Type 0} (s : Solvers X) → Idle s.base → (a : Arrays) → Keeps a → ServesSolving s (site_of a) (store_of a)
-serves_solving s idle a keeps = close-serves-solving s (site_of a) (store_of a) idle (closes a keeps)
+serves_solving s idle a keeps = close_serves_solving s (site_of a) (store_of a) idle (closes a keeps)

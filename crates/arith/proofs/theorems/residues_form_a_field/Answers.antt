@@ -1,7 +1,7 @@
-use Rattle.arith.proofs.Fields.{residue-field}
+use Rattle.arith.proofs.Fields.{residue_field}
 use Rattle.arith.specs.Primality.{prime}
-use Rattle.arith.specs.QuotientsLemmas.{one-quotient}
+use Rattle.arith.specs.QuotientsLemmas.{one_quotient}
 use Rattle.arith.proofs.theorems.residues_form_a_field.Goals as goal
 
 pub returns : goal.returns
-returns c = record { prime = prime; quotients = one-quotient; field = residue-field }
+returns c = record { prime = prime; quotients = one_quotient; field = residue_field }

@@ -3,8 +3,8 @@ use Rattle.std.specs.List.{range_with_len}
 use Rattle.plan.specs.Lookups.{label_in}
 use Rattle.plan.specs.Views.{arrays_of}
 use Rattle.listing.specs.Fills.{unlinked, labels_at, column_fill}
-use Rattle.listing.proofs.Pieces.{puts-kept, puts-passed}
-use Rattle.listing.proofs.Writes.{puts_none, puts-as, puts-to}
+use Rattle.listing.proofs.Pieces.{puts_kept, puts_passed}
+use Rattle.listing.proofs.Writes.{puts_none, puts_as, puts_to}
 use Rattle.listing.proofs.fills.put_column.Goals as goal
 use Rattle.listing.proofs.fills.put_column.Goals.{then-not-is_link, else-not-is_link}
 
@@ -13,7 +13,7 @@ loop-place-init c =
     let a = arrays_of c.args.plan.now in
     let first = c.span-first.result.0 in
     let none : 0 ≡ first - first = omega arith in (
-      puts-as (ap (λ n. map (labels_at a c.args.k) (filter (unlinked a) (range_with_len first n))) none) (puts_none _ _),
+      puts_as (ap (λ n. map (labels_at a c.args.k) (filter (unlinked a) (range_with_len first n))) none) (puts_none _ _),
       omega arith,
     )
 
@@ -32,13 +32,13 @@ loop-place-preserved c =
           let row = ap (λ xs. get_or xs place 0) c.rows-rows.ensures in
           let pair : (w.label.result, w.label-then-not-is_link.result) ≡ f place =
           ap₂ (λ v u. (v, u)) w.label.ensures (w.label-then-not-is_link.ensures ∙ ap (label_in a) row) in
-          let written = puts-kept f (unlinked a) first (place - first) place reached unmarked c.loop-place.invariant.0
-          (puts-as (ap (λ (v : ℕ × ℕ). v ∷ []) pair) w.put-at.ensures) in
-          (puts-to w.table-is w.at-is (puts-as grown written), omega (arith, w.at-is, w.put-at.ensures.ends)))
+          let written = puts_kept f (unlinked a) first (place - first) place reached unmarked c.loop-place.invariant.0
+          (puts_as (ap (λ (v : ℕ × ℕ). v ∷ []) pair) w.put-at.ensures) in
+          (puts_to w.table-is w.at-is (puts_as grown written), omega (arith, w.at-is, w.put-at.ensures.ends)))
       | else-not-is_link w ↦
           (let marked : unlinked a place ≡ false = ap not (sym w.if-not-is_link.ensures) in
-          let written = puts-passed f (unlinked a) first (place - first) place reached marked c.loop-place.invariant.0 in
-          (puts-to w.table-is w.at-is (puts-as grown written), omega (arith, w.at-is)))
+          let written = puts_passed f (unlinked a) first (place - first) place reached marked c.loop-place.invariant.0 in
+          (puts_to w.table-is w.at-is (puts_as grown written), omega (arith, w.at-is)))
     ]
 
 pub returns : goal.returns
@@ -53,6 +53,6 @@ returns c =
     ap (λ q. map (labels_at a k) (filter (unlinked a) (range_with_len first (q - first)))) ended
     ∙ ap (λ (s : ℕ × ℕ). map (labels_at a k) (filter (unlinked a) (range_with_len s.0 (s.1 - s.0)))) c.span-first.ensures.value in
     record {
-      written = puts-as all c.loop-place.invariant.0;
+      written = puts_as all c.loop-place.invariant.0;
       near = omega (arith, c.loop-place.invariant.1, bounds.1, c.requires.position.keeps.few);
     }

@@ -6,8 +6,8 @@ use Rattle.square.specs.declared.refusals.Refusal.TheVariants.{NoPivot}
 use Rattle.square.specs.Elimination.{eliminated}
 use Rattle.square.specs.Plans.{matrix_of}
 use Rattle.numeric.specs.Positions.{Position}
-use Rattle.numeric.proofs.Layouts.{pivot-read}
-use Rattle.numeric.proofs.Runs.{run_more, run-stuck}
+use Rattle.numeric.proofs.Layouts.{pivot_read}
+use Rattle.numeric.proofs.Runs.{run_more, run_stuck}
 use Rattle.numeric.proofs.Tables.{eliminates}
 use Rattle.numeric.proofs.elimination.eliminate.Goals as goal
 
@@ -20,9 +20,9 @@ returns-then-cause-ne0 g c =
     let m = matrix_of o.nothing a w in
     let p : Position a k = record { keeps = c.n-n.ensures.keeps; low = omega arith; high = omega (arith, c.n-n.ensures.value) } in
     let start = c.span-start.ensures in
-    let here = pivot-read o.nothing a k w c.span-start.result.0 c.index-worked-start.result p start.first (omega (arith, start.some, start.inside, c.loop-k.invariant.0)) c.index-worked-start.is in
+    let here = pivot_read o.nothing a k w c.span-start.result.0 c.index-worked-start.result p start.first (omega (arith, start.some, start.inside, c.loop-k.invariant.0)) c.index-worked-start.is in
     let cause : c.verdict-cause.result ≡ o.judged (m k k) = c.verdict-cause.ensures ∙ ap o.judged here in
-    let stuck = run-stuck o (matrix_of o.nothing a c.args.entered.now) k m p.low c.loop-k.invariant.1 (size_in a) p.high (λ e. c.if-cause-ne0.true (cause ∙ e)) in
+    let stuck = run_stuck o (matrix_of o.nothing a c.args.entered.now) k m p.low c.loop-k.invariant.1 (size_in a) p.high (λ e. c.if-cause-ne0.true (cause ∙ e)) in
     let answer = ap (λ l. Err (NoPivot (get_or l (k - 1) 0) c.verdict-cause.result)) c.order.ensures ∙ ap (λ x. Err (NoPivot (get_or a.order (k - 1) 0) x)) cause in
     eliminates o a c.args.entered.now c.args.worked.now _ w (Some (k, o.judged (m k k))) p.keeps
     (omega (arith, c.if-entered-places.false, c.places-places.ensures)) (omega (arith, c.if-worked-places.false, c.places-places.ensures)) c.loop-k.invariant.0 stuck answer

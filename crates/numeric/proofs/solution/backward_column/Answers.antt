@@ -8,13 +8,13 @@ use Rattle.square.specs.Calls.{by_position}
 use Rattle.square.specs.Plans.{site_of, matrix_of}
 use Rattle.square.specs.Solution.{taken_from}
 use Rattle.numeric.specs.Positions.{Position, HasLabel}
-use Rattle.numeric.proofs.Backwards.{take_more, take-all-rows}
-use Rattle.numeric.proofs.Layouts.{row_at, head, row-position, pivot-read}
-use Rattle.numeric.proofs.Orders.{has-label, slot_read, slot-set, slot_kept}
+use Rattle.numeric.proofs.Backwards.{take_more, take_all_rows}
+use Rattle.numeric.proofs.Layouts.{row_at, head, row_position, pivot_read}
+use Rattle.numeric.proofs.Orders.{has_label, slot_read, slot_set, slot_kept}
 use Rattle.numeric.proofs.solution.backward_column.Goals as goal
 
 pub slot-at-requires : goal.slot-at-requires
-slot-at-requires g c = has-label (arrays_of c.args.plan.now) c.args.k c.requires.position c.order-order.result.now c.order-order.ensures
+slot-at-requires g c = has_label (arrays_of c.args.plan.now) c.args.k c.requires.position c.order-order.result.now c.order-order.ensures
 
 pub offset_bounds-levels-at : goal.offset_bounds-levels-at
 offset_bounds-levels-at g c =
@@ -26,7 +26,7 @@ slot-requires g c =
     let a = arrays_of c.args.plan.now in
     let place = c.loop-place.place in
     subst (λ l. HasLabel c.order-order.result.now (get_or l place 0)) (sym c.rows-rows.ensures)
-    (has-label a (row_at a place) (row-position a c.args.k c.requires.position place (omega (arith, c.span-start.ensures.first)) (omega (arith, c.span-start.ensures.past)))
+    (has_label a (row_at a place) (row_position a c.args.k c.requires.position place (omega (arith, c.span-start.ensures.first)) (omega (arith, c.span-start.ensures.past)))
     c.order-order.result.now c.order-order.ensures)
 
 pub offset_bounds-levels-slot : goal.offset_bounds-levels-slot
@@ -64,10 +64,10 @@ loop-place-preserved g c =
     let high : place < start_in a (k + 1) = omega (arith, c.span-start.ensures.past) in
     let within : place < length w = omega (arith, c.span-start.ensures.inside, c.requires.long) in
     let before : place + 1 - 1 ≡ place = omega arith in
-    let p : Position a (row_at a place) = row-position a k c.requires.position place low high in
-    let at-is : c.slot.result ≡ get_or order (row_at a place - 1) 0 - 1 = c.slot.ensures.value ∙ ap (λ l. get_or order (get_or l place 0 - 1) 0 - 1) c.rows-rows.ensures in
+    let p : Position a (row_at a place) = row_position a k c.requires.position place low high in
+    let at_is : c.slot.result ≡ get_or order (row_at a place - 1) 0 - 1 = c.slot.ensures.value ∙ ap (λ l. get_or order (get_or l place 0 - 1) 0 - 1) c.rows-rows.ensures in
     let u = get_or_read w place c.index-worked-place.result within c.index-worked-place.is e in
-    let x = slot_read a (row_at a place) p e c.args.levels.now c.requires.size order c.slot.result c.order-order.ensures at-is c.index-levels-slot.result c.index-levels-slot.is in
+    let x = slot_read a (row_at a place) p e c.args.levels.now c.requires.size order c.slot.result c.order-order.ensures at_is c.index-levels-slot.result c.index-levels-slot.is in
     let level : c.take-level.result ≡ s.taken b (get_or w place e) (y (row_at a place)) = c.take-level.ensures.is ∙ ap₂ (s.taken b) u x in
     ap₂ (λ q v. taken_from s (matrix_of e a w) k y v (suc (row_at a q)) (n - row_at a q)) before level
     ∙ take_more s e g.met.N.Solving.calm a w k c.requires.position y place b _ low c.loop-place.invariant high
@@ -87,14 +87,14 @@ returns g c =
     let v = c.over.result in
     let end : c.loop-place.place ≡ start_in a (k + 1) =
     omega (arith, c.span-start.ensures.past, c.loop-place.auto.place-end (omega (arith, c.span-start.ensures.some))) in
-    let all = take-all-rows s e g.met.N.Solving.calm a w k c.requires.position y c.loop-place.place c.loop-place.level _ (omega (arith, c.span-start.ensures.first)) c.loop-place.invariant end in
-    let d = pivot-read e a k w c.span-start.result.0 c.index-worked-start.result c.requires.position c.span-start.ensures.first
+    let all = take_all_rows s e g.met.N.Solving.calm a w k c.requires.position y c.loop-place.place c.loop-place.level _ (omega (arith, c.span-start.ensures.first)) c.loop-place.invariant end in
+    let d = pivot_read e a k w c.span-start.result.0 c.index-worked-start.result c.requires.position c.span-start.ensures.first
     (omega (arith, c.span-start.ensures.some, c.span-start.ensures.inside, c.requires.long)) c.index-worked-start.is in
     let level : v ≡ s.divided (taken_from s m k y (y k) (suc k) (n - k)) (m k k) = c.over.ensures.is ∙ ap₂ s.divided all d in
     λ i i-low i-high. elim (cases_eq i k) [
       | inl same ↦
           ap (by_position e (site_of a) (set c.args.levels.now at v)) same
-          ∙ slot-set a k c.requires.position e c.args.levels.now c.requires.size order at c.order-order.ensures c.slot-at.ensures.value v
+          ∙ slot_set a k c.requires.position e c.args.levels.now c.requires.size order at c.order-order.ensures c.slot-at.ensures.value v
           ∙ level
           ∙ sym (cond-true (eqb i k) (s.divided (taken_from s m k y (y k) (suc k) (n - k)) (m k k)) (y i) (eq-eqb i k same))
       | inr ne ↦

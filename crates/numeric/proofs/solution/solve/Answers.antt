@@ -5,8 +5,8 @@ use Rattle.plan.specs.Views.{arrays_of}
 use Rattle.square.specs.Calls.{by_position}
 use Rattle.square.specs.Plans.{site_of, matrix_of}
 use Rattle.square.specs.Solution.{forward, backward}
-use Rattle.numeric.proofs.Backwards.{backward-on}
-use Rattle.numeric.proofs.Forwards.{forward-on}
+use Rattle.numeric.proofs.Backwards.{backward_on}
+use Rattle.numeric.proofs.Forwards.{forward_on}
 use Rattle.numeric.proofs.Orders.{solves}
 use Rattle.numeric.proofs.solution.solve.Goals as goal
 use Rattle.numeric.proofs.solution.solve.Goals.{else-loop-k-test, then-loop-k-test+else-k-n}
@@ -17,7 +17,7 @@ loop-k-preserved g c =
     let a = arrays_of c.args.plan.now in
     let f = site_of a in (
       c.forward_column.auto.levels ∙ c.loop-k.invariant.0,
-      λ i l h. forward-on o (matrix_of o.nothing a c.args.worked.now) (by_position o.nothing f c.args.right.now) (by_position o.nothing f c.loop-k.res) (by_position o.nothing f c.forward_column.new.levels)
+      λ i l h. forward_on o (matrix_of o.nothing a c.args.worked.now) (by_position o.nothing f c.args.right.now) (by_position o.nothing f c.loop-k.res) (by_position o.nothing f c.forward_column.new.levels)
           (size_in a) c.loop-k.k i (omega arith) (omega (arith, c.n-n.ensures.value)) l h c.loop-k.invariant.1 (c.forward_column.ensures i l h),
     )
 
@@ -38,7 +38,7 @@ loop-k-2-init g c =
             c.loop-k-test.auto.res ∙ c.loop-k.invariant.0,
             λ i l h.
                 ap (λ y. by_position o.nothing f y i) w.res-is
-                ∙ forward-on o m b (by_position o.nothing f c.loop-k.res) (by_position o.nothing f w.forward_column.new.levels)
+                ∙ forward_on o m b (by_position o.nothing f c.loop-k.res) (by_position o.nothing f w.forward_column.new.levels)
                 n c.loop-k.k i (omega arith) (omega (arith, c.n-n.ensures.value, w.loop-k-test.true)) l h c.loop-k.invariant.1 (w.forward_column.ensures i l h)
                 ∙ ap (λ x. forward o m b x i) last
                 ∙ ap (λ x. backward s m n (forward o m b n) x i) none,
@@ -55,7 +55,7 @@ loop-k-2-preserved g c =
     let m = matrix_of e a c.args.worked.now in
     let z = forward s.base m (by_position e f c.args.right.now) n in (
       c.backward_column.auto.levels ∙ c.loop-k-2.invariant.0,
-      λ i l h. backward-on s m z (by_position e f c.loop-k-2.res) (by_position e f c.backward_column.new.levels)
+      λ i l h. backward_on s m z (by_position e f c.loop-k-2.res) (by_position e f c.backward_column.new.levels)
           n c.loop-k-2.k i c.loop-k-2-test.true (omega (arith, c.n-n.ensures.value)) l h c.loop-k-2.invariant.1 (c.backward_column.ensures i l h),
     )
 

@@ -7,8 +7,8 @@ use Rattle.sheet.specs.Patterns.{Pattern, linked_in}
 use Rattle.sheet.specs.Views.{pattern_of}
 use Rattle.plan.specs.declared.refusals.Refusal.TheVariants.{TooManyPlaces}
 use Rattle.plan.specs.Planned.{Arrays, place_count, planned, arrays_for}
-use Rattle.plan.proofs.Links.{two-way, cell-is}
-use Rattle.plan.proofs.Made.{made, seen-length, seen-labels, seen_apart, seen-places}
+use Rattle.plan.proofs.Links.{two_way, cell_is}
+use Rattle.plan.proofs.Made.{made, seen_length, seen_labels, seen_apart, seen_places}
 use Rattle.plan.proofs.Runs.{ended}
 use Rattle.plan.proofs.Subjects.{answers}
 use Rattle.plan.proofs.making.make.Goals as goal
@@ -24,7 +24,7 @@ returns-in_err-eliminate_all g c =
     let s = pattern_of c.args.sheet.now in
     let price = g.R.Rule.priced c.args.rule.now in
     let p = err_from_is_err_and c.from_residual.result c.from_residual.ensures.1 in
-    let end = c.in_err-eliminate_all.ensures.ends (linked_in s.links) (two-way s.links) (c.start-planner.ensures.stands price) in
+    let end = c.in_err-eliminate_all.ensures.ends (linked_in s.links) (two_way s.links) (c.start-planner.ensures.stands price) in
     let many = subst (λ x. 8192 < place_count price x (linked_in s.links)) c.start-planner.ensures.size end.1 in
     rw (p.1, p.2) (record { exact = ap (λ e. Err e) end.0 ∙ refused price s many; answers = answers price s.n (linked_in s.links); keeps = eliminates price s.n (linked_in s.links) })
 
@@ -36,14 +36,14 @@ invert-requires g c =
     let price = g.R.Rule.priced c.args.rule.now in
     let end = c.eliminate_all.new.self in
     let run = c.in_ok-eliminate_all.ensures in
-    let e = ended price n L c.start-planner.result end c.start-planner.ensures.size run.size (run.ends L (two-way s.links)) (c.start-planner.ensures.stands price) in
+    let e = ended price n L c.start-planner.result end c.start-planner.ensures.size run.size (run.ends L (two_way s.links)) (c.start-planner.ensures.stands price) in
     let size : end.n ≡ n = run.size ∙ c.start-planner.ensures.size in
     let seen = c.deref.result.now in
-    let len = seen-length price n L _ _ _ _ e.stands seen c.deref.ensures.value in
+    let len = seen_length price n L _ _ _ _ e.stands seen c.deref.ensures.value in
     record {
       small = omega (arith, len, size, end.small);
       size = omega (arith, c.deref_mut.ensures.len, c.truncate.ensures.len, c.args.room.full.1, len, size, end.small);
-      labels = λ k h. let f = seen-labels price n L _ _ _ _ e.stands seen c.deref.ensures.value k h in (f.0, omega (arith, f.1, len));
+      labels = λ k h. let f = seen_labels price n L _ _ _ _ e.stands seen c.deref.ensures.value k h in (f.0, omega (arith, f.1, len));
       apart = seen_apart price n L _ _ _ _ e.stands seen c.deref.ensures.value;
     }
 
@@ -55,17 +55,17 @@ lay_out-requires g c =
     let price = g.R.Rule.priced c.args.rule.now in
     let end = c.eliminate_all.new.self in
     let run = c.in_ok-eliminate_all.ensures in
-    let e = ended price n L c.start-planner.result end c.start-planner.ensures.size run.size (run.ends L (two-way s.links)) (c.start-planner.ensures.stands price) in
+    let e = ended price n L c.start-planner.result end c.start-planner.ensures.size run.size (run.ends L (two_way s.links)) (c.start-planner.ensures.stands price) in
     let size : end.n ≡ n = run.size ∙ c.start-planner.ensures.size in
     let seen = c.deref-2.result.now in
-    let len = seen-length price n L _ _ _ _ e.stands seen c.deref-2.ensures.value in
+    let len = seen_length price n L _ _ _ _ e.stands seen c.deref-2.ensures.value in
     let room = c.args.room in
     record {
       small = omega (arith, len, size, end.small);
       size = (c.deref-3.ensures.len ∙ end.size, c.link_table.ensures.size);
-      labels = λ k h. let f = seen-labels price n L _ _ _ _ e.stands seen c.deref-2.ensures.value k h in (f.0, omega (arith, f.1, size, end.small));
+      labels = λ k h. let f = seen_labels price n L _ _ _ _ e.stands seen c.deref-2.ensures.value k h in (f.0, omega (arith, f.1, size, end.small));
       empty = (room.empty.2, (room.empty.3, room.empty.4));
-      few = omega (arith, e.few, seen-places price n L _ _ _ _ e.stands seen c.deref-2.ensures.value _ c.deref-3.ensures.value);
+      few = omega (arith, e.few, seen_places price n L _ _ _ _ e.stands seen c.deref-2.ensures.value _ c.deref-3.ensures.value);
       room = (room.places_room.0, (room.places_room.1, room.places_room.2));
     }
 
@@ -77,19 +77,19 @@ invariant_of-result g c =
     let price = g.R.Rule.priced c.args.rule.now in
     let end = c.eliminate_all.new.self in
     let run = c.in_ok-eliminate_all.ensures in
-    let e = ended price n L c.start-planner.result end c.start-planner.ensures.size run.size (run.ends L (two-way s.links)) (c.start-planner.ensures.stands price) in
+    let e = ended price n L c.start-planner.result end c.start-planner.ensures.size run.size (run.ends L (two_way s.links)) (c.start-planner.ensures.stands price) in
     let size : end.n ≡ n = run.size ∙ c.start-planner.ensures.size in
     let long : length c.invert.new.positions ≡ n = omega (arith, c.invert.auto.positions, c.deref_mut.ensures.len, c.truncate.ensures.len, c.args.room.full.1, size, end.small) in
     let positions = take_at c.invert.new.positions (drop (length c.invert.new.positions) (vec_items c.truncate.new.self)) (vec_len c.truncate.new.self) (omega (arith, c.invert.auto.positions, c.deref_mut.ensures.len)) in
     let m = made price n L _ _ (vec_items end.order) _ e.stands _ c.deref-2.ensures.value _ c.deref-3.ensures.value c.link_table.result.now
-    (λ a b ha hb. cell-is s.links c.link_table.result.now c.link_table.ensures.shows a b (omega (arith, size, end.small)) (omega (arith, size, end.small)))
+    (λ a b ha hb. cell_is s.links c.link_table.result.now c.link_table.ensures.shows a b (omega (arith, size, end.small)) (omega (arith, size, end.small)))
     c.deref.result.now c.invert.new.positions _ (vec_items c.lay_out.new.starts) (vec_items c.lay_out.new.rows) (vec_items c.lay_out.new.marks) c.deref.ensures.value positions (ap (λ (xs : List ℕ). length xs) positions ∙ long) c.invert.ensures c.lay_out.ensures.starts c.lay_out.ensures.rows c.lay_out.ensures.marks in
-    let order : vec_len end.order ≡ n = end.order.ok.0 ∙ seen-length price n L _ _ _ _ e.stands (vec_items end.order) refl in
+    let order : vec_len end.order ≡ n = end.order.ok.0 ∙ seen_length price n L _ _ _ _ e.stands (vec_items end.order) refl in
     let k = m.kept (vec_len end.order) order in
     let trunc : vec_len c.truncate.new.self ≡ n = omega (arith, c.truncate.ensures.len, c.args.room.full.1, size, end.small) in
-    let starts = c.lay_out.new.starts.ok.0 ∙ m.starts-long in
+    let starts = c.lay_out.new.starts.ok.0 ∙ m.starts_long in
     let rows = c.lay_out.new.rows.ok.0 ∙ m.rows_long in
-    let links = c.lay_out.new.marks.ok.0 ∙ m.links-long ∙ sym c.lay_out.new.rows.ok.0 in
+    let links = c.lay_out.new.marks.ok.0 ∙ m.links_long ∙ sym c.lay_out.new.rows.ok.0 in
     record {
       sizes = (trunc ∙ sym order, starts ∙ ap (λ x. x + 1) (sym order), links);
       bounds = (omega (arith, order, c.start-planner.ensures.some, c.start-planner.ensures.size), omega (arith, order, size, end.small), omega (arith, rows, e.few));
@@ -110,11 +110,11 @@ returns g c =
     let price = g.R.Rule.priced c.args.rule.now in
     let end = c.eliminate_all.new.self in
     let run = c.in_ok-eliminate_all.ensures in
-    let e = ended price n L c.start-planner.result end c.start-planner.ensures.size run.size (run.ends L (two-way s.links)) (c.start-planner.ensures.stands price) in
+    let e = ended price n L c.start-planner.result end c.start-planner.ensures.size run.size (run.ends L (two_way s.links)) (c.start-planner.ensures.stands price) in
     let size : end.n ≡ n = run.size ∙ c.start-planner.ensures.size in
     let long : length c.invert.new.positions ≡ n = omega (arith, c.invert.auto.positions, c.deref_mut.ensures.len, c.truncate.ensures.len, c.args.room.full.1, size, end.small) in
     let positions = take_at c.invert.new.positions (drop (length c.invert.new.positions) (vec_items c.truncate.new.self)) (vec_len c.truncate.new.self) (omega (arith, c.invert.auto.positions, c.deref_mut.ensures.len)) in
     let m = made price n L _ _ (vec_items end.order) _ e.stands _ c.deref-2.ensures.value _ c.deref-3.ensures.value c.link_table.result.now
-    (λ a b ha hb. cell-is s.links c.link_table.result.now c.link_table.ensures.shows a b (omega (arith, size, end.small)) (omega (arith, size, end.small)))
+    (λ a b ha hb. cell_is s.links c.link_table.result.now c.link_table.ensures.shows a b (omega (arith, size, end.small)) (omega (arith, size, end.small)))
     c.deref.result.now c.invert.new.positions _ (vec_items c.lay_out.new.starts) (vec_items c.lay_out.new.rows) (vec_items c.lay_out.new.marks) c.deref.ensures.value positions (ap (λ (xs : List ℕ). length xs) positions ∙ long) c.invert.ensures c.lay_out.ensures.starts c.lay_out.ensures.rows c.lay_out.ensures.marks in
     record { exact = answered price s _ e.few m.is; answers = answers price n L; keeps = eliminates price n L }

@@ -3,12 +3,12 @@ use Rattle.std.proofs.lemmas.Bool.{not-true, not-false}
 use Rattle.std.proofs.lemmas.List.{get_or_default}
 use Rattle.plan.specs.Tables.{blank}
 use Rattle.plan.specs.Scan.{label_of}
-use Rattle.plan.proofs.Scans.{scan-more, keeps, takes_first, takes, stays, scan-all}
+use Rattle.plan.proofs.Scans.{scan_more, keeps, takes_first, takes, stays, scan_all}
 use Rattle.plan.proofs.rules.next.Goals as goal
 
 pub loop-i-preserved : goal.loop-i-preserved
 loop-i-preserved g c =
-    scan-more (g.R.Rule.priced c.args.rule.now) _ c.loop-i.best _ c.loop-i.i c.args.nodes.now (get_or c.args.nodes.now c.loop-i.i blank) c.loop-i.invariant
+    scan_more (g.R.Rule.priced c.args.rule.now) _ c.loop-i.best _ c.loop-i.i c.args.nodes.now (get_or c.args.nodes.now c.loop-i.i blank) c.loop-i.invariant
     (omega arith) (get_or_default c.args.nodes.now c.loop-i.i blank (get_or c.args.nodes.now c.loop-i.i blank) (omega arith))
     (elim c.if-not-node.branch [
       | goal.then-not-node+in-None w ↦
@@ -27,9 +27,9 @@ loop-i-preserved g c =
 pub returns-in-None-best : goal.returns-in-None-best
 returns-in-None-best g c =
     ap label_of (sym c.in-None-best.is)
-    ∙ scan-all (g.R.Rule.priced c.args.rule.now) c.loop-i.best c.loop-i.i c.args.nodes.now c.loop-i.invariant (omega arith)
+    ∙ scan_all (g.R.Rule.priced c.args.rule.now) c.loop-i.best c.loop-i.i c.args.nodes.now c.loop-i.invariant (omega arith)
 
 pub returns-in-Some-best : goal.returns-in-Some-best
 returns-in-Some-best g c =
     ap label_of (sym c.in-Some-best.is)
-    ∙ scan-all (g.R.Rule.priced c.args.rule.now) c.loop-i.best c.loop-i.i c.args.nodes.now c.loop-i.invariant (omega arith)
+    ∙ scan_all (g.R.Rule.priced c.args.rule.now) c.loop-i.best c.loop-i.i c.args.nodes.now c.loop-i.invariant (omega arith)

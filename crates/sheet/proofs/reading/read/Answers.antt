@@ -1,32 +1,32 @@
 use Rattle.std.proofs.Common.{sym, ◌∙◌, arith}
 use Rattle.std.proofs.lemmas.Result.{err_from_is_err_and}
-use Rattle.sheet.proofs.Layouts.{reads-from, reads-layouts, one-sheet}
-use Rattle.sheet.proofs.Prefix.{reads-front}
-use Rattle.sheet.proofs.Runs.{seen_as, run-fault, run_none, run_more, run-stop, four-less}
+use Rattle.sheet.proofs.Layouts.{reads_from, reads_layouts, one_sheet}
+use Rattle.sheet.proofs.Prefix.{reads_front}
+use Rattle.sheet.proofs.Runs.{seen_as, run_fault, run_none, run_more, run_stop, four_less}
 use Rattle.sheet.proofs.Steps.{led}
 use Rattle.sheet.proofs.reading.read.Goals as goal
 
 pub returns-in_err-word : goal.returns-in_err-word
 returns-in_err-word c =
     let p = err_from_is_err_and c.from_residual.result c.from_residual.ensures.1 in
-    let e = sym (c.loop-reader.invariant.0 ∙ run-fault _ _ _ _ c.in_err-word.ensures) in
-    rw (p.1, p.2) (record { exact = e; layout = reads-from _ _ (λ i _. omega (arith, c.type_inv.bytes i)) e; layouts = reads-layouts; one = one-sheet; front = reads-front })
+    let e = sym (c.loop-reader.invariant.0 ∙ run_fault _ _ _ _ c.in_err-word.ensures) in
+    rw (p.1, p.2) (record { exact = e; layout = reads_from _ _ (λ i _. omega (arith, c.type_inv.bytes i)) e; layouts = reads_layouts; one = one_sheet; front = reads_front })
 
 pub returns-in_err-accept : goal.returns-in_err-accept
 returns-in_err-accept c =
     let h = seen_as c.in-Some.is c.in_ok-word.ensures in
     let p = err_from_is_err_and c.from_residual-in_err-accept.result c.from_residual-in_err-accept.ensures.1 in
-    let e = sym (c.loop-reader.invariant.0 ∙ run-stop _ _ _ _ _ h _ (sym c.in_err-accept.ensures)) in
-    rw (p.1, p.2) (record { exact = e; layout = reads-from _ _ (λ i _. omega (arith, c.type_inv.bytes i)) e; layouts = reads-layouts; one = one-sheet; front = reads-front })
+    let e = sym (c.loop-reader.invariant.0 ∙ run_stop _ _ _ _ _ h _ (sym c.in_err-accept.ensures)) in
+    rw (p.1, p.2) (record { exact = e; layout = reads_from _ _ (λ i _. omega (arith, c.type_inv.bytes i)) e; layouts = reads_layouts; one = one_sheet; front = reads_front })
 
 pub loop-reader-preserved : goal.loop-reader-preserved
 loop-reader-preserved c =
     let h = seen_as c.in-Some.is c.in_ok-word.ensures in
     let e = sym c.in_ok-accept.ensures in
-    (c.loop-reader.invariant.0 ∙ run_more _ _ _ _ _ h _ e, omega (arith, four-less c.loop-reader.rest.now c.in-Some.after.now c.loop-reader.at c.in-Some.word h), (led _ _ _ _ c.loop-reader.invariant.2 e).0)
+    (c.loop-reader.invariant.0 ∙ run_more _ _ _ _ _ h _ e, omega (arith, four_less c.loop-reader.rest.now c.in-Some.after.now c.loop-reader.at c.in-Some.word h), (led _ _ _ _ c.loop-reader.invariant.2 e).0)
 
 pub returns : goal.returns
 returns c =
     let h = seen_as c.in_default.is c.in_ok-word.ensures in
     let e = c.finish.ensures ∙ sym (c.loop-reader.invariant.0 ∙ run_none _ _ _ h) in
-    record { exact = e; layout = reads-from _ _ (λ i _. omega (arith, c.type_inv.bytes i)) e; layouts = reads-layouts; one = one-sheet; front = reads-front }
+    record { exact = e; layout = reads_from _ _ (λ i _. omega (arith, c.type_inv.bytes i)) e; layouts = reads_layouts; one = one_sheet; front = reads_front }

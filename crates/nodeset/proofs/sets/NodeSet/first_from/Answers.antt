@@ -1,6 +1,6 @@
 use Rattle.std.proofs.Common.{◌-◌, ◌/◌, ◌%◌, get_or, sym, ◌∙◌, arith}
 use Rattle.nodeset.specs.Sets.{bit_at}
-use Rattle.nodeset.proofs.Firsts.{first_below, found_here, found-later}
+use Rattle.nodeset.proofs.Firsts.{first_below, found_here, found_later}
 use Rattle.nodeset.proofs.sets.NodeSet.first_from.Goals as goal
 
 pub overflow_add-result : goal.overflow_add-result
@@ -15,4 +15,4 @@ returns-in-Some c =
 
 pub loop-at-preserved : goal.loop-at-preserved
 loop-at-preserved c =
-    c.loop-at.invariant ∙ found-later c.args.self.now.words c.loop-at.at c.loop-at-test.true (sym c.lowest_from.ensures ∙ c.in_default.is)
+    c.loop-at.invariant ∙ found_later c.args.self.now.words c.loop-at.at c.loop-at-test.true (sym c.lowest_from.ensures ∙ c.in_default.is)

@@ -5,11 +5,11 @@ use Rattle.std.proofs.lemmas.Bool.{eqb-false}
 use Rattle.graph.specs.Picking.{place_from}
 use Rattle.sheet.specs.Views.{pattern_of}
 use Rattle.plan.specs.Given.{place_in}
-use Rattle.plan.proofs.Turns.{turns-none, turns_more}
+use Rattle.plan.proofs.Turns.{turns_none, turns_more}
 use Rattle.plan.proofs.given.GivenOrder.of.Goals as goal
 
 pub loop-i-init : goal.loop-i-init
-loop-i-init c = (refl, turns-none)
+loop-i-init c = (refl, turns_none)
 
 pub loop-i-preserved : goal.loop-i-preserved
 loop-i-preserved c =

@@ -1,5 +1,5 @@
 use Rattle.std.proofs.Common.{refl, ◌∙◌, arith}
-use Rattle.plan.proofs.Runs.{advances, too_many, few-enough}
+use Rattle.plan.proofs.Runs.{advances, too_many, few_enough}
 use Rattle.plan.proofs.planner.Planner.eliminate_all.Goals as goal
 
 pub returns-then-self-gt-MOST_PLACES : goal.returns-then-self-gt-MOST_PLACES
@@ -8,10 +8,10 @@ returns-then-self-gt-MOST_PLACES g c =
     let size = c.eliminate_next.ensures.size ∙ c.loop-k.invariant.0 in
     record {
       size = size;
-      ends = λ linked two-way st. (
+      ends = λ linked two_way st. (
         refl,
         too_many price c.args.self.now.n linked _ c.eliminate_next.new.self size (omega arith) (omega arith)
-            (advances price c.loop-k.self c.eliminate_next.new.self c.args.self.now.n linked c.loop-k.k c.loop-k.invariant.0 two-way (omega arith) c.eliminate_next.ensures.stands (c.loop-k.invariant.3 linked two-way st)),
+            (advances price c.loop-k.self c.eliminate_next.new.self c.args.self.now.n linked c.loop-k.k c.loop-k.invariant.0 two_way (omega arith) c.eliminate_next.ensures.stands (c.loop-k.invariant.3 linked two_way st)),
       );
     }
 
@@ -21,13 +21,13 @@ loop-k-preserved g c =
       c.eliminate_next.ensures.size ∙ c.loop-k.invariant.0,
       omega (arith, c.eliminate_next.ensures.longer, c.loop-k.invariant.1),
       omega arith,
-      λ linked two-way st.
-          advances price c.loop-k.self c.eliminate_next.new.self c.args.self.now.n linked c.loop-k.k c.loop-k.invariant.0 two-way (omega arith) c.eliminate_next.ensures.stands (c.loop-k.invariant.3 linked two-way st),
+      λ linked two_way st.
+          advances price c.loop-k.self c.eliminate_next.new.self c.args.self.now.n linked c.loop-k.k c.loop-k.invariant.0 two_way (omega arith) c.eliminate_next.ensures.stands (c.loop-k.invariant.3 linked two_way st),
     )
 
 pub returns : goal.returns
 returns g c = record {
   size = c.loop-k.invariant.0;
-  ends = λ linked two-way st.
-      few-enough (g.R.Rule.priced c.args.rule.now) c.args.self.now.n linked c.loop-k.k c.loop-k.self c.loop-k.invariant.0 (omega arith) c.loop-k.invariant.2 (c.loop-k.invariant.3 linked two-way st);
+  ends = λ linked two_way st.
+      few_enough (g.R.Rule.priced c.args.rule.now) c.args.self.now.n linked c.loop-k.k c.loop-k.self c.loop-k.invariant.0 (omega arith) c.loop-k.invariant.2 (c.loop-k.invariant.3 linked two_way st);
 }

@@ -2,7 +2,7 @@ use Rattle.std.proofs.Common.{◌≡◌, length, drop, set, vec_items, vec_len, 
 use Rattle.std.proofs.lemmas.List.{get_or_read_under, take_at}
 use Rattle.plan.specs.declared.records.NodeRecord.{NodeRecord}
 use Rattle.plan.specs.Tables.{cell, joined_rows, Has, count_below, blank, gone_in}
-use Rattle.plan.proofs.Joins.{alone-joined}
+use Rattle.plan.proofs.Joins.{alone_joined}
 use Rattle.plan.proofs.planner.Planner.join.Goals as goal
 
 pub returns : goal.returns
@@ -26,5 +26,5 @@ invariant_of-self c =
     let cells = take_at last (drop (length last) me.cells.items) (vec_len me.cells) (omega (arith, c.join_row.auto.cells, c.deref_mut.ensures.len)) in
     let joins : Has me.n last (joined_rows (cell (vec_items me.cells)) c.args.v c.args.a) =
     λ r b h k. c.join_row.ensures r b h k ∙ ap (λ l. joined_rows (cell l) c.args.v c.args.a r b) c.deref_mut.ensures.value in
-    let alone = alone-joined me.n c.args.v c.args.a (vec_items me.cells) last me.alone joins in
+    let alone = alone_joined me.n c.args.v c.args.a (vec_items me.cells) last me.alone joins in
     record { small = me.small; size = me.size; noted = me.noted; room = me.room; alone = λ a h. ap (λ l. cell l a a) cells ∙ alone a h }

@@ -5,9 +5,9 @@ use Rattle.plan.specs.Planned.{Arrays}
 use Rattle.plan.specs.Views.{arrays_of}
 use Rattle.plan.proofs.plans.Plan.parent.Goals as goal
 
-first-label : (a : Arrays) (xs : List ℕ) → 0 < length xs → label_in a (get_or xs 0 0) ≡ first_label a xs
-first-label a [] h = absurd (omega (arith, h))
-first-label a (x ∷ xs) h = refl
+first_label_lem : (a : Arrays) (xs : List ℕ) → 0 < length xs → label_in a (get_or xs 0 0) ≡ first_label a xs
+first_label_lem a [] h = absurd (omega (arith, h))
+first_label_lem a (x ∷ xs) h = refl
 
 pub returns-in-len1-up : goal.returns-in-len1-up
 returns-in-len1-up c =
@@ -17,4 +17,4 @@ returns-in-len1-up c =
     let up = c.column.ensures.above 0 some in
     let is : c.index.result.now ≡ get_or (vec_items p.order) (get_or rows 0 0 - 1) 0 =
     get_or_read_under (vec_items p.order) (get_or rows 0 0 - 1) (vec_len p.order) c.index.result.now 0 c.index.ensures (omega (arith, up.0, up.1, p.order.ok.0)) p.order.ok.0 in
-    is ∙ first-label (arrays_of p) rows some ∙ ap (first_label (arrays_of p)) c.column.ensures.value
+    is ∙ first_label_lem (arrays_of p) rows some ∙ ap (first_label (arrays_of p)) c.column.ensures.value
