@@ -1,11 +1,11 @@
 #!/usr/bin/env python3
 """Brings the definitions and lemmas of specs/ and proofs/ to snake case: usage: python3 tools/snake_names.py [ROOT]
 
-A name in mixed case that begins small, as inColumn, becomes in_column in every .rt, .antt and .edit file below ROOT/crates. A
-name that is declared in specs/ or proofs/ with dashes between plain words, as linked-after, becomes linked_after wherever it
-stands; the names of goals and of their steps, which Rattle makes, keep their dashes. Types, facts and modules begin with a
-capital and stay, and so do texts in quotation marks. It writes nothing where two names that have to stay apart would become
-one. A second run changes nothing."""
+A name in mixed case that begins small, as inColumn, becomes in_column in every .rt, .antt and .edit file below ROOT/crates,
+and in a file that was one of these and is set aside as a text. A name that is declared in specs/ or proofs/ with dashes between
+plain words, as linked-after, becomes linked_after wherever it stands; the names of goals and of their steps, which Rattle makes,
+keep their dashes. Types, facts and modules begin with a capital and stay, and so do texts in quotation marks. It writes nothing
+where two names that have to stay apart would become one. A second run changes nothing."""
 
 import pathlib
 import re
@@ -37,10 +37,16 @@ APART = {
     "first-label": "first_label_lem",
     "link-at": "link_at_lem",
     "link-by": "link_by_lem",
+    "shown-table": "shown_table_lem",
 }
 
 # Lemmas with the name of a step of a goal, as w.next-is: what stands behind a dot is the step.
 STEPS = {"at-is", "next-is", "worked-is"}
+
+
+def kind(path):
+    """The ending of a file's name, or what it was before the file was set aside as a text."""
+    return pathlib.Path(path.name.removesuffix(".txt")).suffix
 
 
 def small(part):
@@ -68,7 +74,7 @@ def dashed(texts):
     """The new name of each name with dashes that specs/ and proofs/ declare, goals aside."""
     found = set()
     for path, text in texts.items():
-        if path.suffix != ".antt":
+        if kind(path) != ".antt":
             continue
         for line in text.splitlines():
             declared = DECLARED.match(line)
@@ -87,7 +93,7 @@ def renamed(text, new):
 
 
 def main(root):
-    files = [p for p in sorted(pathlib.Path(root, "crates").rglob("*")) if p.suffix in (".rt", ".antt", ".edit") and "out" not in p.parts]
+    files = [p for p in sorted(pathlib.Path(root, "crates").rglob("*")) if kind(p) in (".rt", ".antt", ".edit") and "out" not in p.parts]
     before = {p: p.read_text(encoding="utf-8") for p in files}
 
     used = set().union(*map(names, before.values()))
