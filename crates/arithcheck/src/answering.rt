@@ -21,7 +21,7 @@ pub fn eliminate<N: Arithmetic + Spelled>(call: EliminationCall<N>) -> Answer
 
 /// The answer to a call of solving.
 pub fn solve<N: Solving + Spelled>(call: SolvingCall<N>) -> Answer
-    ensures { result ≡ solved (solvers_of N.Arithmetic N.Solving.taken N.Solving.divided) N.Spelled.answered call }
+    ensures { result ≡ solved (solvers_of N.Arithmetic N.taken N.divided) N.Spelled.answered call }
 {
     match call {
         SolvingCall::Base(call) => eliminate(call),

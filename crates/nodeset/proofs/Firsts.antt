@@ -9,11 +9,6 @@ use Rattle.nodeset.proofs.Bits.{bit_shr, bit_of_zero, trailing_below, trailing_a
 use Rattle.nodeset.proofs.Counted.{word_bit}
 use Rattle.nodeset.proofs.Members.{has_in}
 
--- a number below m, if there is one
-abbrev Below : ℕ → Option ℕ → Type 0
-Below m None = Unit {0}
-Below m (Some x) = x < m
-
 module _ (test : ℕ → Bool) where
   -- numbers that fail the test are passed over
   pub first_skip : (t m i : ℕ) → t ≤ m → ((j : ℕ) → j < t → test (i + j) ≡ false) → first_of test i m ≡ first_of test (i + t) (m - t)
@@ -30,17 +25,6 @@ module _ (test : ℕ → Bool) where
   pub first_here : (m i : ℕ) → 0 < m → test i ≡ true → first_of test i m ≡ Some i
   first_here zero i h e = absurd (omega (arith, h))
   first_here (suc m) i h e = ap (λ b. cond b (Some i) (first_of test (i + 1) m)) e
-
-  within : (m i : ℕ) → Below (i + m) (first_of test i m)
-  within zero i = tt
-  within (suc m) i = by (test i) (let e : i + 1 + m ≡ i + suc m = omega arith in subst (λ x. Below x (first_of test (i + 1) m)) e (within m (i + 1))) where
-    by : (b : Bool) → Below (i + suc m) (first_of test (i + 1) m) → Below (i + suc m) (cond b (Some i) (first_of test (i + 1) m))
-    by true h = omega arith
-    by false h = h
-
-  -- what is found is one of the m numbers
-  pub first_below : (m i x : ℕ) → first_of test i m ≡ Some x → x < i + m
-  first_below m i x e = subst (Below (i + m)) e (within m i)
 
 -- a bit that is set lies below every bound
 bit_below : (a k m : ℕ) → bit_at a k ≡ true → a < 2 ^ m → k < m

@@ -1,10 +1,11 @@
 -- What it is that is found first: it passes the test, and none before it does.
-use Rattle.std.proofs.Common.{◌≡◌, ℕ, zero, suc, ◌+◌, ◌<◌, ◌≤◌, Bool, true, false, cond, Some, None, Option, refl, ap, ◌∙◌, subst, inl, inr, arith}
-use Rattle.std.proofs.lemmas.Bool.{cases_eq}
-use Rattle.nodeset.specs.Sets.{first_of}
+use Rattle.std.proofs.Common.{◌≡◌, ℕ, zero, suc, ◌+◌, ◌-◌, ◌/◌, ◌%◌, ◌<◌, ◌≤◌, Bool, true, false, cond, ◌&&◌, get_or, Some, None, Option, refl, sym, ap, ◌∙◌, subst, inl, inr, arith}
+use Rattle.std.proofs.lemmas.Bool.{cases_eq, cases_lt, le-ltb}
+use Rattle.nodeset.specs.declared.sets.NodeSet.{NodeSet}
+use Rattle.nodeset.specs.Sets.{bit_at, has, first_of, FindsLeast}
 
 -- of the m numbers from i on
-abbrev pub Finds : (ℕ → Bool) → ℕ → ℕ → Option ℕ → Type 0
+abbrev Finds : (ℕ → Bool) → ℕ → ℕ → Option ℕ → Type 0
 Finds test i m None = (j : ℕ) → i ≤ j → j < i + m → test j ≡ false
 Finds test i m (Some x) = (i ≤ x) × (x < i + m) × (test x ≡ true) × ((j : ℕ) → i ≤ j → j < x → test j ≡ false)
 
@@ -26,5 +27,20 @@ module _ (test : ℕ → Bool) where
     at true e f = (omega arith, omega arith, e, λ j l u. absurd (omega (arith, l, u)))
     at false e f = later i m e (first_of test (i + 1) m) f
 
-  pub found : (m i : ℕ) (o : Option ℕ) → o ≡ first_of test i m → Finds test i m o
-  found m i o e = subst (Finds test i m) (let q : first_of test i m ≡ o = cc in q) (finds m i)
+  found : (m i : ℕ) (o : Option ℕ) → o ≡ first_of test i m → Finds test i m o
+  found m i o e = subst (Finds test i m) (sym e) (finds m i)
+
+  -- what is found is one of the m numbers
+  pub first_below : (m i x : ℕ) → first_of test i m ≡ Some x → x < i + m
+  first_below m i x e = (found m i (Some x) (sym e)).1
+
+  -- where nothing from 512 on passes, the numbers below it are all that matter
+  pub found_least : (i : ℕ) (o : Option ℕ) → ((j : ℕ) → 512 ≤ j → test j ≡ false) → o ≡ first_of test i (512 - i) → FindsLeast test i o
+  found_least i None past e =
+      let f = found (512 - i) i None e in
+      λ j l. elim (cases_lt j 512) [ inl b ↦ f j l (omega arith) | inr b ↦ past j b ]
+  found_least i (Some x) past e = let f = found (512 - i) i (Some x) e in record { from = f.0; passes = f.2; least = f.3 }
+
+-- a set has nothing from 512 on
+pub has_past : (s : NodeSet) (j : ℕ) → 512 ≤ j → has s j ≡ false
+has_past s j h = ap (λ t. t && bit_at (get_or s.words (j / 64) 0) (j % 64)) (le-ltb j 512 h)

@@ -36,7 +36,7 @@ fn backward_column<N: Solving>(plan: &Plan, worked: &[N], levels: &mut [N], k: u
     requires position { Position (arrays_of plan.now) k }
     requires long { length worked.now ≡ length (arrays_of plan.now).rows }
     requires size { length levels.old ≡ size_in (arrays_of plan.now) }
-    ensures { Moves N.Arithmetic.nothing (arrays_of plan.now) (backward_step (solvers_of N.Arithmetic N.Solving.taken N.Solving.divided) (matrix_of N.Arithmetic.nothing (arrays_of plan.now) worked.now) (size_in (arrays_of plan.now)) k) levels.old levels.new }
+    ensures { Moves N.Arithmetic.nothing (arrays_of plan.now) (backward_step (solvers_of N.Arithmetic N.taken N.divided) (matrix_of N.Arithmetic.nothing (arrays_of plan.now) worked.now) (size_in (arrays_of plan.now)) k) levels.old levels.new }
 {
     let rows = plan.rows();
     let order = plan.order();
@@ -49,26 +49,26 @@ fn backward_column<N: Solving>(plan: &Plan, worked: &[N], levels: &mut [N], k: u
     levels[at] = N::over(level, worked[start]);
 }
 
-/// Writes the levels for the right sides, both by label, into the result table. Refused when the worked table isn't P long or one
-/// of the others isn't n long, and the result table is then as it was.
+/// Writes the levels for the right sides, both by label. Refused when the worked table isn't P long or one of the others isn't n
+/// long, and the table of levels is then as it was.
 pub fn solve<N: Solving>(
     plan: &Plan,
     worked: &[N],
     right: &[N],
-    res: &mut [N],
+    levels: &mut [N],
 ) -> Result<(), Refusal>
-    ensures { Solves (solvers_of N.Arithmetic N.Solving.taken N.Solving.divided) (arrays_of plan.now) worked.now right.now res.old result res.new }
+    ensures { Solves (solvers_of N.Arithmetic N.taken N.divided) (arrays_of plan.now) worked.now right.now levels.old result levels.new }
 {
     let n = plan.n();
-    if worked.len() != plan.places() || right.len() != n as usize || res.len() != n as usize {
+    if worked.len() != plan.places() || right.len() != n as usize || levels.len() != n as usize {
         return Err(Refusal::WrongLength);
     }
-    res.copy_from_slice(right);
+    levels.copy_from_slice(right);
     for k in 1..=n {
-        forward_column(plan, worked, res, k);
+        forward_column(plan, worked, levels, k);
     }
     for k in (1..=n).rev() {
-        backward_column(plan, worked, res, k);
+        backward_column(plan, worked, levels, k);
     }
     Ok(())
 }

@@ -38,7 +38,7 @@ pub fn stores_serve<N: Arithmetic>()
 
 /// States that they serve lives with solve among the calls, too; it computes nothing.
 pub fn stores_serve_solving<N: Solving>()
-    ensures { (a : Arrays) → Keeps a → ServesSolving (solvers_of N.Arithmetic N.Solving.taken N.Solving.divided) (site_of a) (store_of a) }
+    ensures { (a : Arrays) → Keeps a → ServesSolving (solvers_of N.Arithmetic N.taken N.divided) (site_of a) (store_of a) }
 {}
 
 /// States that in marks the places of every plan are the least store that serves; it computes nothing.
@@ -49,7 +49,7 @@ pub fn stores_are_least()
 /// States that where the numbers form a field, the levels of every plan balance the system that was eliminated last; it
 /// computes nothing.
 pub fn levels_balance<N: Solving>()
-    ensures { (r : Ring N) → Field (solvers_of N.Arithmetic N.Solving.taken N.Solving.divided) r → (a : Arrays) → Keeps a → Balances (solvers_of N.Arithmetic N.Solving.taken N.Solving.divided) r (site_of a) }
+    ensures { (r : Ring N) → Field (solvers_of N.Arithmetic N.taken N.divided) r → (a : Arrays) → Keeps a → Balances (solvers_of N.Arithmetic N.taken N.divided) r (site_of a) }
 {}
 
 /// States that the levels of every plan balance in the residues, which are a field; it computes nothing.

@@ -1,6 +1,6 @@
 //! What a set has, how many, and which comes next.
 ghost use Rattle.std.specs.Prelude.{◌≡◌, ◌-◌};
-ghost use Rattle.nodeset.specs.Sets.{has, count_below, first_of};
+ghost use Rattle.nodeset.specs.Sets.{has, count_below, first_of, FindsLeast};
 
 use super::NodeSet;
 use crate::words::{count, lowest_from};
@@ -26,7 +26,8 @@ impl NodeSet {
 
     /// The least number from i on that the set has.
     pub fn first_from(&self, i: u16) -> Option<u16>
-        ensures { result ≡ first_of (has self.now) i (512 - i) }
+        ensures value { result ≡ first_of (has self.now) i (512 - i) }
+        ensures least { FindsLeast (has self.now) i result }
     {
         let mut at = i;
         while at < 512 {

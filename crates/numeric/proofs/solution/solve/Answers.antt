@@ -17,7 +17,7 @@ loop-k-preserved g c =
     let a = arrays_of c.args.plan.now in
     let f = site_of a in (
       c.forward_column.auto.levels ∙ c.loop-k.invariant.0,
-      λ i l h. forward_on o (matrix_of o.nothing a c.args.worked.now) (by_position o.nothing f c.args.right.now) (by_position o.nothing f c.loop-k.res) (by_position o.nothing f c.forward_column.new.levels)
+      λ i l h. forward_on o (matrix_of o.nothing a c.args.worked.now) (by_position o.nothing f c.args.right.now) (by_position o.nothing f c.loop-k.levels) (by_position o.nothing f c.forward_column.new.levels)
           (size_in a) c.loop-k.k i (omega arith) (omega (arith, c.n-n.ensures.value)) l h c.loop-k.invariant.1 (c.forward_column.ensures i l h),
     )
 
@@ -35,10 +35,10 @@ loop-k-2-init g c =
       | else-loop-k-test w ↦ absurd (omega (arith, w.loop-k-test.false, c.loop-k.auto.k-end (omega (arith, c.n-n.ensures.value, c.n-n.ensures.keeps.some))))
       | then-loop-k-test+else-k-n w ↦
           (let last : c.loop-k.k + 1 - 1 ≡ n = omega (arith, c.n-n.ensures.value, w.loop-k-test.true) in (
-            c.loop-k-test.auto.res ∙ c.loop-k.invariant.0,
+            c.loop-k-test.auto.levels ∙ c.loop-k.invariant.0,
             λ i l h.
-                ap (λ y. by_position o.nothing f y i) w.res-is
-                ∙ forward_on o m b (by_position o.nothing f c.loop-k.res) (by_position o.nothing f w.forward_column.new.levels)
+                ap (λ y. by_position o.nothing f y i) w.levels-is
+                ∙ forward_on o m b (by_position o.nothing f c.loop-k.levels) (by_position o.nothing f w.forward_column.new.levels)
                 n c.loop-k.k i (omega arith) (omega (arith, c.n-n.ensures.value, w.loop-k-test.true)) l h c.loop-k.invariant.1 (w.forward_column.ensures i l h)
                 ∙ ap (λ x. forward o m b x i) last
                 ∙ ap (λ x. backward s m n (forward o m b n) x i) none,
@@ -55,7 +55,7 @@ loop-k-2-preserved g c =
     let m = matrix_of e a c.args.worked.now in
     let z = forward s.base m (by_position e f c.args.right.now) n in (
       c.backward_column.auto.levels ∙ c.loop-k-2.invariant.0,
-      λ i l h. backward_on s m z (by_position e f c.loop-k-2.res) (by_position e f c.backward_column.new.levels)
+      λ i l h. backward_on s m z (by_position e f c.loop-k-2.levels) (by_position e f c.backward_column.new.levels)
           n c.loop-k-2.k i c.loop-k-2-test.true (omega (arith, c.n-n.ensures.value)) l h c.loop-k-2.invariant.1 (c.backward_column.ensures i l h),
     )
 
@@ -69,6 +69,6 @@ returns g c =
     let m = matrix_of e a c.args.worked.now in
     let z = forward s.base m (by_position e f c.args.right.now) n in
     let all : n - c.loop-k-2.k ≡ n = omega arith in
-    solves s a c.args.worked.now c.args.right.now c.args.res.now c.loop-k-2.res c.n-n.ensures.keeps
-    (omega (arith, c.if-worked-places.false, c.places.ensures)) (omega (arith, c.if-right-n.false, c.n-n.ensures.value)) (omega (arith, c.if-res-n.false, c.n-n.ensures.value)) c.loop-k-2.invariant.0
+    solves s a c.args.worked.now c.args.right.now c.args.levels.now c.loop-k-2.levels c.n-n.ensures.keeps
+    (omega (arith, c.if-worked-places.false, c.places.ensures)) (omega (arith, c.if-right-n.false, c.n-n.ensures.value)) (omega (arith, c.if-levels-n.false, c.n-n.ensures.value)) c.loop-k-2.invariant.0
     (λ i l h. c.loop-k-2.invariant.1 i l h ∙ ap (λ x. backward s m n z x i) all)

@@ -12,9 +12,9 @@ abbrev pub invariant-loop-k : goal.invariant-loop-k
 invariant-loop-k g l =
     let o = operations_of g.N.Arithmetic in
     let a = arrays_of l.plan in
-    (length l.res ≡ size_in a)
+    (length l.levels ≡ size_in a)
     × ((i : ℕ) → 0 < i → i ≤ size_in a
-    → by_position o.nothing (site_of a) l.res i ≡ forward o (matrix_of o.nothing a l.worked) (by_position o.nothing (site_of a) l.right) (l.k - 1) i)
+    → by_position o.nothing (site_of a) l.levels i ≡ forward o (matrix_of o.nothing a l.worked) (by_position o.nothing (site_of a) l.right) (l.k - 1) i)
 
 -- back over the positions past k
 abbrev pub invariant-loop-k-2 : goal.invariant-loop-k-2
@@ -24,6 +24,6 @@ invariant-loop-k-2 g l =
     let a = arrays_of l.plan in
     let n = size_in a in
     let m = matrix_of e a l.worked in
-    (length l.res ≡ n)
+    (length l.levels ≡ n)
     × ((i : ℕ) → 0 < i → i ≤ n
-    → by_position e (site_of a) l.res i ≡ backward s m n (forward s.base m (by_position e (site_of a) l.right) n) (n - l.k) i)
+    → by_position e (site_of a) l.levels i ≡ backward s m n (forward s.base m (by_position e (site_of a) l.right) n) (n - l.k) i)

@@ -1,30 +1,6 @@
-use Rattle.std.proofs.Common.{◌≡◌, ◌+◌, length, vec_items, vec_len, sym, ap, ◌∙◌, subst, arith}
-use Rattle.plan.specs.Layout.{Undoes, Starts, Diagonals, Rises, Within, Closed}
+use Rattle.std.proofs.Common.{◌∙◌}
+use Rattle.plan.proofs.Kept.{keeps}
 use Rattle.plan.proofs.plans.Plan.n.Goals as goal
 
 pub returns : goal.returns
-returns c =
-    let p = c.args.self.now in
-    let O = vec_items p.order in
-    let Q = vec_items p.positions in
-    let S = vec_items p.starts in
-    let R = vec_items p.rows in
-    let e : vec_len p.order ≡ length O = p.order.ok.0 in
-    record {
-      value = c.len.ensures ∙ e;
-      keeps = record {
-        some = omega (arith, e, p.bounds.0);
-        small = omega (arith, e, p.bounds.1);
-        few = omega (arith, p.rows.ok.0, p.bounds.2);
-        positions_long = sym p.positions.ok.0 ∙ p.sizes.0 ∙ e;
-        starts_long = sym p.starts.ok.0 ∙ p.sizes.1 ∙ ap (λ x. x + 1) e;
-        links_long = sym p.links.ok.0 ∙ p.sizes.2 ∙ p.rows.ok.0;
-        ranked = subst (λ n. Undoes n O Q) e p.ranked;
-        placed = subst (λ n. Undoes n Q O) e p.placed;
-        starting = subst (λ n. Starts n S R) e p.starting;
-        headed = subst (λ n. Diagonals n S R) e p.headed;
-        rising = subst (λ n. Rises n S R) e p.rising;
-        within = subst (λ n. Within n R) e p.within;
-        closed = subst (λ n. Closed n S R (vec_items p.links)) e p.closed;
-      };
-    }
+returns c = record { value = c.len.ensures ∙ c.args.self.now.order.ok.0; keeps = keeps c.args.self.now }
