@@ -1,17 +1,12 @@
--- Products of remainders by 65,521.
-use Rattle.std.specs.Prelude.{◌≡◌, ℕ, ◌*◌, ◌/◌, ◌%◌}
-use Rattle.std.proofs.Common.{ap, ◌∙◌, mul_comm, add-mul, mul_assoc, arith}
-use Rattle.std.proofs.Math.Nat.{div-add-mod}
+-- Remainders by the prime.
+use Rattle.std.specs.Prelude.{◌≡◌, ℕ, ◌*◌, ◌%◌}
+use Rattle.std.proofs.Common.{mul_assoc}
+use Rattle.std.proofs.lemmas.Nat.{mul-mod_first, mul-mod_second}
+use Rattle.arith.specs.declared.residues.TheConstants.{PRIME}
 
 abbrev pub rem : ℕ → ℕ
-rem n = n % 65521
+rem n = n % PRIME
 
-pub rem_times : (x y : ℕ) → rem (rem x * y) ≡ rem (x * y)
-rem_times x y =
-    let split = ap (λ n. n * y) (div-add-mod x 65521) in
-    let apart = add-mul (65521 * (x / 65521)) (rem x) y in
-    let out = mul_assoc 65521 (x / 65521) y in
-    omega arith
-
-pub times_rem : (x y : ℕ) → rem (x * rem y) ≡ rem (x * y)
-times_rem x y = ap rem (mul_comm x (rem y)) ∙ rem_times y x ∙ ap rem (mul_comm y x)
+-- of a product of three, either two may be taken first
+pub regrouped : (x y z : ℕ) → rem (rem (x * y) * z) ≡ rem (x * rem (y * z))
+regrouped x y z = simp (mul-mod_first, mul-mod_second, mul_assoc)

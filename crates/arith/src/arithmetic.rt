@@ -21,6 +21,7 @@ pub trait Arithmetic: Copy {
         ensures { result ≡ updated a u d v };
 
     /// 0 where `d` may be a pivot, and else the cause why not.
+    // A number and no enum, by the rule that 0 passes for every kind, and any other number is a cause of the kind's own.
     fn verdict(d: Self) -> u32
         ensures { result ≡ judged d };
 

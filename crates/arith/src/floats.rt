@@ -43,6 +43,7 @@ impl Arithmetic for f64 {
     }
 }
 
+#[tactic(auto, using(crate::specs::Zeros::calm))]
 impl Solving for f64 {
     ghost taken = { taken_float };
 

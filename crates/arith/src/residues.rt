@@ -1,12 +1,15 @@
 //! Whole numbers modulo the prime 65,521.
 ghost use Rattle.std.specs.Prelude.{◌<◌};
+ghost use Rattle.arith.specs.declared.residues.TheConstants.{PRIME};
 
 mod modular;
 mod operations;
+
+const PRIME: u32 = 65_521;
 
 /// A residue, 0 to 65,520.
 #[derive(Clone, Copy)]
 pub struct Residue {
     value: u32,
-    ghost below: { value < 65521 },
+    ghost below: { value < PRIME },
 }

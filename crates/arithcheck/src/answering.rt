@@ -13,8 +13,8 @@ pub fn eliminate<N: Arithmetic + Spelled>(call: EliminationCall<N>) -> Answer
     ensures { result ≡ eliminated (operations_of N.Arithmetic) N.Spelled.answered call }
 {
     match call {
-        EliminationCall::Nothing => N::nothing().told(),
-        EliminationCall::Update(a, u, d, v) => N::update(a, u, d, v).told(),
+        EliminationCall::Nothing => N::nothing().into(),
+        EliminationCall::Update(a, u, d, v) => N::update(a, u, d, v).into(),
         EliminationCall::Verdict(d) => Answer::Verdict(N::verdict(d)),
     }
 }
@@ -25,7 +25,7 @@ pub fn solve<N: Solving + Spelled>(call: SolvingCall<N>) -> Answer
 {
     match call {
         SolvingCall::Base(call) => eliminate(call),
-        SolvingCall::Take(b, u, y) => N::take(b, u, y).told(),
-        SolvingCall::Over(b, d) => N::over(b, d).told(),
+        SolvingCall::Take(b, u, y) => N::take(b, u, y).into(),
+        SolvingCall::Over(b, d) => N::over(b, d).into(),
     }
 }

@@ -1,4 +1,9 @@
 //! What is answered, and how it is printed.
+ghost use Rattle.std.specs.Prelude.{◌≡◌};
+ghost use Rattle.arithcheck.specs.declared.answers.Answer.TheVariants as answer;
+
+use arith::marks::Mark;
+use arith::residues::Residue;
 use std::fmt;
 use std::num::f64_to_bits_with_nan;
 
@@ -6,9 +11,33 @@ use std::num::f64_to_bits_with_nan;
 #[derive(Clone, Copy)]
 pub enum Answer {
     Float(f64),
-    Residue(u32),
-    Mark(bool),
+    Residue(Residue),
+    Mark(Mark),
     Verdict(u32),
+}
+
+impl From<f64> for Answer {
+    ghost from_gives = { λ x r. r ≡ answer.Float x };
+
+    fn from(float: f64) -> Answer {
+        Answer::Float(float)
+    }
+}
+
+impl From<Residue> for Answer {
+    ghost from_gives = { λ x r. r ≡ answer.Residue x };
+
+    fn from(residue: Residue) -> Answer {
+        Answer::Residue(residue)
+    }
+}
+
+impl From<Mark> for Answer {
+    ghost from_gives = { λ x r. r ≡ answer.Mark x };
+
+    fn from(mark: Mark) -> Answer {
+        Answer::Mark(mark)
+    }
 }
 
 /// A float by its bits, in 16 hexadecimal digits, or as `nan`; a residue in hexadecimal; a mark as `on` or `off`; a
@@ -16,17 +45,11 @@ pub enum Answer {
 impl fmt::Display for Answer {
     fn fmt<W: fmt::Write>(&self, f: &mut fmt::Formatter<W>) -> fmt::Result {
         match *self {
-            Answer::Float(x) => {
-                if x.is_nan() {
-                    write!(f, "nan")
-                } else {
-                    let bits = f64_to_bits_with_nan(x);
-                    write!(f, "{bits:016x}")
-                }
-            }
-            Answer::Residue(value) => write!(f, "{value:x}"),
-            Answer::Mark(true) => write!(f, "on"),
-            Answer::Mark(false) => write!(f, "off"),
+            Answer::Float(x) if x.is_nan() => write!(f, "nan"),
+            Answer::Float(x) => write!(f, "{:016x}", f64_to_bits_with_nan(x)),
+            Answer::Residue(x) => write!(f, "{:x}", u32::from(x)),
+            Answer::Mark(Mark { on: true }) => write!(f, "on"),
+            Answer::Mark(Mark { on: false }) => write!(f, "off"),
             Answer::Verdict(verdict) => write!(f, "{verdict}"),
         }
     }

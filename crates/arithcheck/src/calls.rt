@@ -1,4 +1,5 @@
 //! Calls of the functions of an arithmetic.
+// Values and no closures: the contracts that say how a call is answered go by its cases.
 
 /// A call of a function that elimination needs, with its arguments.
 #[derive(Clone, Copy)]

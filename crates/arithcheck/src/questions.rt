@@ -13,9 +13,9 @@ pub fn answer_to(question: &str) -> Option<Answer> {
     let kind = words.next()?;
     let function = words.next()?;
     match kind {
-        "float" => Some(solve::<f64>(solving(function, &mut words)?)),
-        "residue" => Some(solve::<Residue>(solving(function, &mut words)?)),
-        "mark" => Some(eliminate::<Mark>(eliminating(function, &mut words)?)),
+        "float" => solving(function, &mut words).map(solve::<f64>),
+        "residue" => solving(function, &mut words).map(solve::<Residue>),
+        "mark" => eliminating(function, &mut words).map(eliminate::<Mark>),
         _ => None,
     }
 }

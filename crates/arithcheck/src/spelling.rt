@@ -1,6 +1,8 @@
-//! How the numbers of each kind are spelled in a question.
+//! How the numbers of each kind are spelled in a question, and what they are as answers.
 ghost use Rattle.std.specs.Prelude.{◌≡◌};
+ghost use Rattle.std.proofs.Common.{rules};
 ghost use Rattle.arithcheck.specs.declared.answers.Answer.{Answer};
+ghost use Rattle.arithcheck.specs.declared.answers.Answer.TheVariants as answer;
 
 use crate::answers::Answer;
 use arith::marks::Mark;
@@ -8,53 +10,46 @@ use arith::residues::Residue;
 use std::num::f64_from_bits_with_nan;
 
 /// A kind of number that can be asked about.
-pub trait Spelled: Sized {
+// Not FromStr: that of a float reads decimals, and those of the other two kinds would be of their crate.
+pub trait Spelled: Sized + Into<Answer> {
     // the number as an answer
     ghost answered: { Self → Answer };
 
     /// The number that a word spells.
     fn read(word: &str) -> Option<Self>;
 
-    /// The number as an answer.
-    fn told(self) -> Answer
-        ensures { result ≡ answered self };
+    // it is what the number converts to
+    ghost told: { (x : Self) (r : Answer) → Self.converts x r → r ≡ answered x };
 }
 
 /// A float is spelled by its bits, in hexadecimal; the bits of any NaN are NaN.
 impl Spelled for f64 {
-    ghost answered = { λ x. Answer.Float x };
+    ghost answered = { answer.Float };
+
+    ghost told = { Prim.search rules };
 
     fn read(word: &str) -> Option<f64> {
-        match u64::from_str_radix(word, 16) {
-            Ok(bits) => Some(f64_from_bits_with_nan(bits)),
-            Err(_) => None,
-        }
-    }
-
-    fn told(self) -> Answer {
-        Answer::Float(self)
+        let bits = u64::from_str_radix(word, 16).ok()?;
+        Some(f64_from_bits_with_nan(bits))
     }
 }
 
 /// A residue is spelled by any 32-bit number that it is the remainder of, in hexadecimal.
 impl Spelled for Residue {
-    ghost answered = { λ x. Answer.Residue x.value };
+    ghost answered = { answer.Residue };
+
+    ghost told = { Prim.search rules };
 
     fn read(word: &str) -> Option<Residue> {
-        match u32::from_str_radix(word, 16) {
-            Ok(number) => Some(Residue::of(number)),
-            Err(_) => None,
-        }
-    }
-
-    fn told(self) -> Answer {
-        Answer::Residue(self.value())
+        u32::from_str_radix(word, 16).ok().map(Residue::from)
     }
 }
 
 /// A mark is spelled `on` or `off`.
 impl Spelled for Mark {
-    ghost answered = { λ x. Answer.Mark x.on };
+    ghost answered = { answer.Mark };
+
+    ghost told = { Prim.search rules };
 
     fn read(word: &str) -> Option<Mark> {
         match word {
@@ -62,9 +57,5 @@ impl Spelled for Mark {
             "off" => Some(Mark { on: false }),
             _ => None,
         }
-    }
-
-    fn told(self) -> Answer {
-        Answer::Mark(self.on)
     }
 }

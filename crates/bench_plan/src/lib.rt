@@ -2,44 +2,52 @@
 #![tactic(auto)]
 
 use plan::making::make;
+use plan::refusals::Refusal;
 use plan::rules::LeastDegree;
-use sheet::reading::read;
+use sheet::reading::{Fault, read};
 use std::alloc::{AllocError, Global};
 
-/// The number of places of a sheet's plan under least degree, or the negative number of its refusal.
-fn places(heap: Global, bytes: &[u8]) -> Result<i64, AllocError> {
+/// The memory of a reading and of a plan.
+fn rooms(heap: Global) -> Result<(sheet::room::Room, plan::room::Room), AllocError> {
     let sheet_room = sheet::room::Room::reserve(heap)?;
     let plan_room = plan::room::Room::reserve(heap)?;
-    let sheet = match read(sheet_room, bytes) {
-        Ok(sheet) => sheet,
-        Err(fault) => return Ok(-(fault.number() as i64)),
-    };
-    match make(plan_room, &sheet, &LeastDegree) {
-        Ok(plan) => Ok(i64::try_from(plan.places()).unwrap_or(0)),
-        Err(refusal) => Ok(-(refusal.number() as i64)),
-    }
+    Ok((sheet_room, plan_room))
+}
+
+/// The number of places of a sheet's plan under least degree, or the number of its refusal.
+// A number and no enum of refusals, since C is given no more.
+fn places(
+    sheet_room: sheet::room::Room,
+    plan_room: plan::room::Room,
+    bytes: &[u8],
+) -> Result<usize, u8> {
+    let sheet = read(sheet_room, bytes).map_err(Fault::number)?;
+    let plan = make(plan_room, &sheet, &LeastDegree).map_err(Refusal::number)?;
+    Ok(plan.places())
+}
+
+/// The same as one number, negative for a refusal.
+fn planned(heap: Global, bytes: &[u8]) -> Result<i64, AllocError> {
+    let (sheet_room, plan_room) = rooms(heap)?;
+    Ok(match places(sheet_room, plan_room, bytes) {
+        Ok(places) => i64::try_from(places).unwrap_or(0),
+        Err(number) => -i64::from(number),
+    })
 }
 
 /// Plans a sheet as often as asked; what the last time gave, and 0 where there was no time or no memory.
 #[unsafe(no_mangle)]
 pub extern "C" fn plan_sheet(heap: Global, bytes: &[u8], times: u64) -> i64 {
-    let mut last = 0;
-    for _ in 0..times {
-        match places(heap, bytes) {
-            Ok(places) => last = places,
-            Err(_) => return 0,
-        }
-    }
-    last
+    (0..times)
+        .try_fold(0, |_, _| planned(heap, bytes))
+        .unwrap_or(0)
 }
 
 /// Reserves the memory of a reading and of a plan as often as asked, and gives it back; how often that was done.
 #[unsafe(no_mangle)]
 pub extern "C" fn reserve_rooms(heap: Global, times: u64) -> u64 {
     for done in 0..times {
-        let sheet_room = sheet::room::Room::reserve(heap);
-        let plan_room = plan::room::Room::reserve(heap);
-        if sheet_room.is_err() || plan_room.is_err() {
+        if rooms(heap).is_err() {
             return done;
         }
     }

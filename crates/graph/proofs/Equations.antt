@@ -1,17 +1,9 @@
 -- The column equation.
-use Rattle.std.proofs.Common.{◌≡◌, ℕ, zero, suc, Bool, true, false, ◌&&◌, ◌||◌, refl, ap, ◌∙◌}
+use Rattle.std.proofs.Common.{◌≡◌, ℕ, zero, suc, Bool, ◌&&◌, ◌||◌, arith}
 use Rattle.graph.specs.Columns.{any_below}
 use Rattle.graph.specs.Graphs.{Graph, start}
 use Rattle.graph.specs.Picking.{Price, remaining, picked}
 use Rattle.graph.specs.Theorems.{ColumnEquation}
-
-or_none : (x : Bool) → x ≡ (x || false)
-or_none true = refl
-or_none false = refl
-
-or_assoc : (x y z : Bool) → ((x || y) || z) ≡ (x || (y || z))
-or_assoc true y z = refl
-or_assoc false y z = refl
 
 module _ (price : Price) (g : Graph) where
   -- whether the elimination when k are gone links a and b
@@ -20,8 +12,8 @@ module _ (price : Price) (g : Graph) where
 
   -- the links when j are gone: those of the sheet, and those that an elimination made
   pub linked_after : (j a b : ℕ) → (remaining price g j).linked a b ≡ (g.linked a b || any_below (made a b) j)
-  linked_after zero a b = or_none (g.linked a b)
-  linked_after (suc j) a b = ap (λ x. x || made a b j) (linked_after j a b) ∙ or_assoc (g.linked a b) (any_below (made a b) j) (made a b j)
+  linked_after zero a b = grind arith
+  linked_after (suc j) a b = grind (arith, linked_after j a b)
 
 pub column_equation : (price : Price) (n : ℕ) (linked : ℕ → ℕ → Bool) → ColumnEquation price n linked
 column_equation price n linked j i = let g = start n linked in linked_after price g j (picked price g j) (picked price g i)

@@ -1,41 +1,27 @@
 -- The rows of a column are ancestors of its position.
-use Rattle.std.proofs.Common.{◌≡◌, ℕ, zero, suc, ◌+◌, ◌-◌, ◌<◌, ◌≤◌, Bool, true, false, cond, ◌&&◌, eqb, ◌⊎◌, List, [], ◌∷◌, filter, sym, refl, ap, ◌∙◌, inl, inr, ⊎_elim, arith}
+use Rattle.std.proofs.Common.{◌≡◌, ℕ, zero, suc, ◌+◌, ◌-◌, ◌<◌, ◌≤◌, Bool, true, ◌&&◌, ◌⊎◌, List, [], ◌∷◌, filter, sym, refl, ◌∙◌, inl, inr, ⊎_elim, arith}
 use Rattle.std.specs.List.{range_with_len}
-use Rattle.std.proofs.lemmas.Bool.{or_left, or_right, and_from, both_ways, eq-eqb, cases_lt}
-use Rattle.graph.specs.Columns.{in_column, column, lowest, parent, ancestor, member, any_below}
+use Rattle.std.proofs.lemmas.Bool.{or_right, and_from, cases_lt}
+use Rattle.std.proofs.lemmas.Bool.Decides.{nat_tests}
+use Rattle.graph.specs.Columns.{in_column, column, lowest, parent, ancestor, member}
 use Rattle.graph.specs.Graphs.{start}
 use Rattle.graph.specs.Picking.{Price}
 use Rattle.graph.specs.Theorems.{MakesForest}
+use Rattle.graph.proofs.Below.{any_here}
 use Rattle.graph.proofs.Equations.{column_equation}
 use Rattle.graph.proofs.Members.{member_column, row_between}
 
-any_here : (test : ℕ → Bool) (m k : ℕ) → k < m → test k ≡ true → any_below test m ≡ true
-any_here test zero k h e = absurd (omega arith)
-any_here test (suc m) k h e =
-    elim (cases_lt k m) [
-      | inl l ↦ or_left (any_below test m) (test m) (any_here test m k l e)
-      | inr l ↦ or_right (any_below test m) (test m) (let s : m ≡ k = omega arith in ap test s ∙ e)
-    ]
-
 -- the lowest number of a range from a on that a test keeps, where it keeps i
-record Lowest (test : ℕ → Bool) (a i low : ℕ) : Type 0 where
-  from : a ≤ low
-  least : low ≤ i
-  kept : test low ≡ true
+abbrev Lowest : (ℕ → Bool) → ℕ → ℕ → ℕ → Type 0
+Lowest test a i low = (a ≤ low) × (low ≤ i) × (test low ≡ true)
 
 lowest_kept : (test : ℕ → Bool) (a m i : ℕ) → a ≤ i → i < a + m → test i ≡ true → Lowest test a i (lowest (filter test (range_with_len a m)))
 lowest_kept test a zero i l u e = absurd (omega arith)
-lowest_kept test a (suc m) i l u e = at (λ k. lowest_kept test (a + 1) m i k (omega arith) e) (test a) refl where
-  at : (a + 1 ≤ i → Lowest test (a + 1) i (lowest (filter test (range_with_len (a + 1) m)))) → (b : Bool) → test a ≡ b → Lowest test a i (lowest (cond b (a ∷ filter test (range_with_len (a + 1) m)) (filter test (range_with_len (a + 1) m))))
-  at later true t = record { from = omega arith; least = l; kept = t }
-  at later false t =
-      let apart : a ≡ i → ⊥ = λ q. both_ways (test a) t (ap test q ∙ e) in
-      let r = later (omega (arith, apart)) in
-      record { from = omega (arith, r.from); least = r.least; kept = r.kept }
+lowest_kept test a (suc m) i l u e = grind (arith, nat_tests, lowest_kept test (a + 1) m i)
 
 lowest_member : (xs : List ℕ) → (lowest xs ≡ 0) ⊎ (member (lowest xs) xs ≡ true)
 lowest_member [] = inl refl
-lowest_member (x ∷ xs) = inr (or_left (eqb x x) (member x xs) (eq-eqb x x refl))
+lowest_member (x ∷ xs) = grind (arith, nat_tests)
 
 module _ (price : Price) (n : ℕ) (linked : ℕ → ℕ → Bool) where
   abbrev rows : ℕ → List ℕ
@@ -55,16 +41,16 @@ module _ (price : Price) (n : ℕ) (linked : ℕ → ℕ → Bool) where
       member_column price n linked p i (omega arith) v h ∙ column_equation price n linked (p - 1) (i - 1) ∙ or_right _ _ (any_here both (p - 1) (k - 1) (omega arith) here)
 
   climbs : (d k i : ℕ) → 1 ≤ k → i - k ≤ d → member i (rows k) ≡ true → (m : ℕ) × (ancestor price (start n linked) n m k ≡ i)
-  climbs zero k i l b e = let r = row_between price n linked k i e in absurd (omega (arith, r.0))
+  climbs zero k i l b e = absurd (omega (arith, row_between price n linked k i e))
   climbs (suc d) k i l b e =
       let r = row_between price n linked k i e in
       let test : ℕ → Bool = λ j. in_column price (start n linked) (k - 1) (j - 1) in
-      let low = lowest_kept test (k + 1) (n - k) i (omega (arith, r.0)) (omega (arith, r.0, r.1)) (sym (member_column price n linked k i l r.0 r.1) ∙ e) in
+      let low = lowest_kept test (k + 1) (n - k) i (omega (arith, r)) (omega (arith, r)) (sym (member_column price n linked k i l r.0 r.1) ∙ e) in
       ⊎_elim
       (λ (q : up k < i).
-      let c = climbs d (up k) i (omega (arith, low.from)) (omega (arith, low.from, r.0)) (rows_joined k (up k) i l (omega (arith, low.from)) q r.1 low.kept e) in
+      let c = climbs d (up k) i (omega (arith, low)) (omega (arith, low, r)) (rows_joined k (up k) i l (omega (arith, low)) q r.1 low.2 e) in
       (suc c.0, c.1))
-      (λ (q : i ≤ up k). let s : up k ≡ i = omega (arith, low.least) in (1, s))
+      (λ (q : i ≤ up k). let s : up k ≡ i = omega (arith, low) in (1, s))
       (cases_lt (up k) i)
 
 pub makes_forest : (price : Price) (n : ℕ) (linked : ℕ → ℕ → Bool) → MakesForest price n linked

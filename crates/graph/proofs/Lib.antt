@@ -1,3 +1,4 @@
+pub mod Below
 pub mod Eliminations
 pub mod Equations
 pub mod Forests

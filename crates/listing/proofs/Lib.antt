@@ -1,6 +1,7 @@
+pub mod Bounds
 pub mod Defined
 pub mod Filled
 pub mod Listed
-pub mod Pieces
-pub mod Spans
+pub mod Marked
+pub mod Walked
 pub mod Writes

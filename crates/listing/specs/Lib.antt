@@ -1,6 +1,5 @@
 pub mod Faults
 pub mod Fills
-pub mod Positions
 pub mod Refusals
 pub mod Tables
 pub mod Texts

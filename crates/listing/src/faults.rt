@@ -14,6 +14,7 @@ pub enum SiteFault {
     InPlan(Refusal),
 }
 
+// Written by hand: the derive that writes such impls promises neither which variant `from` makes nor what the line is.
 impl From<Fault> for SiteFault {
     ghost from_gives = { λ e r. r ≡ InSheet e };
 

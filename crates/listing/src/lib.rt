@@ -1,7 +1,6 @@
 //! The fill list and the listing of a plan, into lent tables; the text of a refusal line.
 #![tactic(auto)]
 
-mod columns;
 pub mod faults;
 pub mod fills;
 pub mod listings;

@@ -1,13 +1,13 @@
 -- The first member of a set from a number on.
-use Rattle.std.proofs.Common.{◌≡◌, ℕ, zero, suc, ◌+◌, ◌-◌, ◌*◌, ◌/◌, ◌%◌, ◌^◌, ◌<◌, ◌≤◌, Bool, true, false, cond, ◌&&◌, eqb, ltb, List, get_or, Some, None, Option, sym, refl, ap, ◌∙◌, subst, ap₂, inl, inr, lt_of_lt_of_le, arith, pow_mono}
-use native.Mathlib.Nat.{div-eq_of_lt}
+use Rattle.std.proofs.Common.{◌≡◌, ℕ, zero, suc, ◌+◌, ◌-◌, ◌*◌, ◌/◌, ◌^◌, ◌<◌, ◌≤◌, Bool, true, false, cond, ◌&&◌, eqb, ltb, List, get_or, Some, None, Option, sym, ap, ◌∙◌, ap₂, inl, inr, lt_of_le_of_lt, arith, w64}
 use lib.Count.{count_trailing_zeros}
-use Rattle.std.proofs.lemmas.Nat.{shr_below}
+use Rattle.std.proofs.Math.Nat.{div-le_self}
 use Rattle.std.proofs.lemmas.Bool.{cases_lt, false≢true}
-use Rattle.nodeset.specs.Sets.{bit_at, first_of}
-use Rattle.nodeset.proofs.Bits.{bit_shr, bit_of_zero, trailing_below, trailing_at}
-use Rattle.nodeset.proofs.Counted.{word_bit}
-use Rattle.nodeset.proofs.Members.{has_in}
+use Rattle.std.proofs.lemmas.Nat.Bits.{bit_at-zero, bit_at-trailing_zeros, bit_at_above}
+use Rattle.nodeset.specs.declared.sets.NodeSet.{NodeSet}
+use Rattle.nodeset.specs.Sets.{bit_at, has, first_of, IsLeastFrom, FindsLeast}
+use Rattle.nodeset.proofs.Bits.{bit_shr}
+use Rattle.nodeset.proofs.Members.{has_in, member_below, word_bit}
 
 module _ (test : ℕ → Bool) where
   -- numbers that fail the test are passed over
@@ -22,109 +22,72 @@ module _ (test : ℕ → Bool) where
       ∙ first_skip t m (i + 1) (omega (arith, h)) (λ j l. let s : i + 1 + j ≡ i + suc j = omega arith in ap test s ∙ off (suc j) (omega (arith, l)))
       ∙ ap₂ (first_of test) e d
 
-  pub first_here : (m i : ℕ) → 0 < m → test i ≡ true → first_of test i m ≡ Some i
+  first_here : (m i : ℕ) → 0 < m → test i ≡ true → first_of test i m ≡ Some i
   first_here zero i h e = absurd (omega (arith, h))
   first_here (suc m) i h e = ap (λ b. cond b (Some i) (first_of test (i + 1) m)) e
 
--- a bit that is set lies below every bound
-bit_below : (a k m : ℕ) → bit_at a k ≡ true → a < 2 ^ m → k < m
-bit_below a k m e h =
-    elim (cases_lt k m) [
-      | inl l ↦ l
-      | inr l ↦ absurd (false≢true (sym (ap (λ x. eqb (x % 2) 1) (div-eq_of_lt (lt_of_lt_of_le h (pow_mono l)))) ∙ e))
-    ]
+  pub first_none : (i m : ℕ) → ((j : ℕ) → i ≤ j → test j ≡ false) → first_of test i m ≡ None
+  first_none i m off = let z : m - m ≡ 0 = omega arith in first_skip m m i (omega arith) (λ j l. off (i + j) (omega arith)) ∙ ap (first_of test (i + m)) z
 
--- the lowest bit of a word from `low` on
-module _ (word low m : ℕ) (e : m ≡ 64) (h : low < 64) (fits : word < 2 ^ m) where
-  -- what is left of the word
+-- the least member is the first
+pub least_first : (s : NodeSet) (i : ℕ) (o : Option ℕ) → FindsLeast (has s) i o → o ≡ first_of (has s) i (512 - i)
+least_first s i None none = sym (first_none (has s) i (512 - i) none)
+least_first s i (Some x) f =
+    let e : i + (x - i) ≡ x = omega (arith, f.from) in
+    let below = member_below s x f.passes in
+    sym (first_skip (has s) (x - i) (512 - i) i (omega (arith, below)) (λ j l. f.least (i + j) (omega arith) (omega (arith, l)))
+    ∙ ap (λ y. first_of (has s) y (512 - i - (x - i))) e ∙ first_here (has s) (512 - i - (x - i)) x (omega (arith, below, f.from)) f.passes)
+
+-- the lowest bit of a word from `low` on, by what is left of the word there
+module _ (word low : ℕ) where
   abbrev rest : ℕ
   rest = word / 2 ^ low
 
-  rest_below : rest < 2 ^ (64 - low)
-  rest_below =
-      let s : m ≡ 64 - low + low = omega (arith, e) in
-      shr_below word (64 - low) low (subst (λ x. word < 2 ^ x) s fits)
+  left_bit : (j : ℕ) → low ≤ j → bit_at word j ≡ bit_at rest (j - low)
+  left_bit j h = let e : low + (j - low) ≡ j = omega (arith, h) in ap (bit_at word) (sym e) ∙ sym (bit_shr word low (j - low))
 
-  short : rest < 2 ^ m
-  short = lt_of_lt_of_le rest_below (pow_mono (omega (arith, e)))
+  pub lowest_none : rest ≡ 0 → FindsLeast (bit_at word) low None
+  lowest_none none j h = left_bit j h ∙ ap (λ x. bit_at x (j - low)) none ∙ ap (λ d. eqb d 1) (bit_at-zero (j - low))
 
-  abbrev t : ℕ
-  t = count_trailing_zeros m rest
+  pub lowest_some : word < 2 ^ 64 → 0 < rest → IsLeastFrom (bit_at word) low (low + count_trailing_zeros 64 rest)
+  lowest_some fits some =
+      let t = count_trailing_zeros 64 rest in
+      let (_, set, zeros) = bit_at-trailing_zeros w64 rest some (lt_of_le_of_lt (div-le_self word (2 ^ low)) fits) in
+      record {
+        from = omega arith;
+        passes = sym (bit_shr word low t) ∙ ap (λ d. eqb d 1) set;
+        least = λ j h l. left_bit j h ∙ ap (λ d. eqb d 1) (zeros (j - low) (omega (arith, h, l)));
+      }
 
-  pub lowest_some : 0 < rest → (t < 64 - low) × (first_of (bit_at word) low (64 - low) ≡ Some (low + t))
-  lowest_some some =
-      let set = trailing_at m rest short some in
-      let inside = bit_below rest t (64 - low) set rest_below in (
-        inside,
-        first_skip (bit_at word) t (64 - low) low (omega (arith, inside)) (λ j l. sym (bit_shr word low j) ∙ trailing_below m rest j l)
-            ∙ first_here (bit_at word) (64 - low - t) (low + t) (omega (arith, inside)) (sym (bit_shr word low t) ∙ set),
-      )
+-- a bit that is set lies below every bound
+pub bit_below : (a k m : ℕ) → bit_at a k ≡ true → a < 2 ^ m → k < m
+bit_below a k m e h = elim (cases_lt k m) [
+  | inl l ↦ l
+  | inr l ↦ absurd (false≢true (sym (ap (λ d. eqb d 1) (bit_at_above a m k h l)) ∙ e))
+]
 
-  pub lowest_none : rest ≡ 0 → first_of (bit_at word) low (64 - low) ≡ None
-  lowest_none none =
-      let z : 64 - low - (64 - low) ≡ 0 = omega arith in
-      first_skip (bit_at word) (64 - low) (64 - low) low (omega arith) (λ j l. sym (bit_shr word low j) ∙ ap (λ x. bit_at x j) none ∙ bit_of_zero j)
-      ∙ ap (first_of (bit_at word) (low + (64 - low))) z
-
--- a number found, s further on
-abbrev moved : ℕ → Option ℕ → Option ℕ
-moved s None = None
-moved s (Some x) = Some (s + x)
-
-moved_cond : (s i : ℕ) (b : Bool) (o : Option ℕ) → cond b (Some (s + i)) (moved s o) ≡ moved s (cond b (Some i) o)
-moved_cond s i true o = refl
-moved_cond s i false o = refl
-
--- a test that goes as another s further on
-first_moved : (f g : ℕ → Bool) (s m i : ℕ) → ((j : ℕ) → j < m → f (s + (i + j)) ≡ g (i + j)) → first_of f (s + i) m ≡ moved s (first_of g i m)
-first_moved f g s zero i same = refl
-first_moved f g s (suc m) i same =
-    let z : i ≡ i + 0 = omega arith in
-    let e : s + i + 1 ≡ s + (i + 1) = omega arith in
-    ap₂ (λ b o. cond b (Some (s + i)) o) (ap (λ x. f (s + x)) z ∙ same 0 (omega arith) ∙ ap g (sym z))
-    (ap (λ x. first_of f x m) e ∙ first_moved f g s m (i + 1) (λ j l. let d : i + 1 + j ≡ i + suc j = omega arith in ap (λ x. f (s + x)) d ∙ same (suc j) (omega (arith, l)) ∙ ap g (sym d)))
-    ∙ moved_cond s i (g i) (first_of g (i + 1) m)
-
--- what is found among the first m numbers is found among more, and what isn't, further on
-abbrev or_later : Option ℕ → Option ℕ → Option ℕ
-or_later None o = o
-or_later (Some x) o = Some x
-
-later_cond : (i : ℕ) (b : Bool) (o p : Option ℕ) → cond b (Some i) (or_later o p) ≡ or_later (cond b (Some i) o) p
-later_cond i true o p = refl
-later_cond i false o p = refl
-
-first_later : (f : ℕ → Bool) (m k i : ℕ) → first_of f i (m + k) ≡ or_later (first_of f i m) (first_of f (i + m) k)
-first_later f zero k i = let e : i ≡ i + 0 = omega arith in let z : 0 + k ≡ k = omega arith in ap₂ (first_of f) e z
-first_later f (suc m) k i =
-    let s : suc m + k ≡ suc (m + k) = omega arith in
-    let e : i + 1 + m ≡ i + suc m = omega arith in
-    ap (first_of f i) s ∙ ap (cond (f i) (Some i)) (first_later f m k (i + 1) ∙ ap (λ x. or_later (first_of f (i + 1) m) (first_of f x k)) e)
-    ∙ later_cond i (f i) (first_of f (i + 1) m) (first_of f (i + suc m) k)
-
-module _ (words : List ℕ) (at : ℕ) (low : at < 512) where
+-- from i on, where there is no member before place `low` of word k
+module _ (words : List ℕ) (i k low : ℕ) (inside : k < 8) (before : (j : ℕ) → i ≤ j → j < k * 64 + low → (ltb j 512 && has_in words j) ≡ false) where
   abbrev member : ℕ → Bool
-  member i = ltb i 512 && has_in words i
+  member j = ltb j 512 && has_in words j
 
-  abbrev found : Option ℕ
-  found = first_of (bit_at (get_or words (at / 64) 0)) (at % 64) (64 - at % 64)
+  abbrev bit : ℕ → Bool
+  bit = bit_at (get_or words k 0)
 
-  -- from `at` on, first in its word and then in the next
-  in_words : first_of member at (512 - at) ≡ or_later (moved (64 * (at / 64)) found) (first_of member ((at / 64 + 1) * 64) (512 - (at / 64 + 1) * 64))
-  in_words =
-      let s : 512 - at ≡ 64 - at % 64 + (512 - (at / 64 + 1) * 64) = omega arith in
-      let n : at + (64 - at % 64) ≡ (at / 64 + 1) * 64 = omega arith in
-      let q : at ≡ 64 * (at / 64) + at % 64 = omega arith in
-      ap (first_of member at) s ∙ first_later member (64 - at % 64) (512 - (at / 64 + 1) * 64) at
-      ∙ ap₂ or_later
-      (ap (λ x. first_of member x (64 - at % 64)) q
-      ∙ first_moved member (bit_at (get_or words (at / 64) 0)) (64 * (at / 64)) (64 - at % 64) (at % 64) (λ j l. word_bit words (at / 64) (at % 64 + j) (omega (arith, low)) (omega (arith, l))))
-      (ap (λ x. first_of member x (512 - (at / 64 + 1) * 64)) n)
+  -- nor below place m of the word, if no bit below m is set
+  none_below : (m : ℕ) → m ≤ 64 → ((j : ℕ) → low ≤ j → j < m → bit j ≡ false) → (j : ℕ) → i ≤ j → j < k * 64 + m → member j ≡ false
+  none_below m short none j h l = elim (cases_lt j (k * 64 + low)) [
+    | inl b ↦ before j h b
+    | inr b ↦ let e : k * 64 + (j - k * 64) ≡ j = omega (arith, b) in
+        ap member (sym e) ∙ word_bit words k (j - k * 64) inside (omega (arith, l, short)) ∙ none (j - k * 64) (omega (arith, b)) (omega (arith, l, b))
+  ]
 
-  pub found_here : (bit : ℕ) → found ≡ Some bit → first_of member at (512 - at) ≡ Some (at / 64 * 64 + bit)
-  found_here bit e =
-      let c : 64 * (at / 64) + bit ≡ at / 64 * 64 + bit = omega arith in
-      in_words ∙ ap (λ o. or_later (moved (64 * (at / 64)) o) (first_of member ((at / 64 + 1) * 64) (512 - (at / 64 + 1) * 64))) e ∙ ap Some c
+  pub found_here : i ≤ k * 64 + low → (x : ℕ) → x < 64 → IsLeastFrom bit low x → IsLeastFrom member i (k * 64 + x)
+  found_here on x short f = record {
+    from = omega (arith, on, f.from);
+    passes = word_bit words k x inside short ∙ f.passes;
+    least = none_below x (omega (arith, short)) f.least;
+  }
 
-  pub found_later : found ≡ None → first_of member at (512 - at) ≡ first_of member ((at / 64 + 1) * 64) (512 - (at / 64 + 1) * 64)
-  found_later e = in_words ∙ ap (λ o. or_later (moved (64 * (at / 64)) o) (first_of member ((at / 64 + 1) * 64) (512 - (at / 64 + 1) * 64))) e
+  pub found_later : FindsLeast bit low None → (j : ℕ) → i ≤ j → j < (k + 1) * 64 → member j ≡ false
+  found_later none j h l = none_below 64 (omega arith) (λ j h _. none j h) j h (omega (arith, l))

@@ -1,14 +1,13 @@
 -- Rows of sets, read and changed.
-use Rattle.std.proofs.Common.{◌≡◌, ℕ, zero, suc, ◌+◌, ◌-◌, ◌/◌, ◌%◌, ◌<◌, ◌≤◌, Bool, true, false, cond, not, ◌&&◌, ◌||◌, eqb, ltb, ◌≢◌, List, length, get_or, set, replicate, None, sym, refl, ap, ◌∙◌, ap₂, inl, inr, arith, length-set}
+use Rattle.std.proofs.Common.{◌≡◌, ℕ, ◌/◌, ◌%◌, ◌<◌, ◌≤◌, Bool, true, false, cond, not, ◌&&◌, ◌||◌, eqb, ltb, ◌≢◌, List, length, get_or, set, replicate, sym, ap, ◌∙◌, ap₂, inl, inr, arith, length-set}
 use lib.ListN.{get_or-replicate, length-replicate}
-use Rattle.std.proofs.lemmas.List.{get_or-set_same, get_or-set_other, get_or_past}
+use Rattle.std.proofs.lemmas.List.{get_or-set_same, get_or-set_other, get_or_past, get_or_read_under}
 use Rattle.std.proofs.lemmas.Bool.{cases_eq, cases_lt, eq-eqb, ne_eqb, lt-ltb, and_right}
 use Rattle.nodeset.specs.declared.sets.NodeSet.{NodeSet}
 use Rattle.nodeset.specs.Rows.{no_nodes, in_rows, linked_also, joined_to}
-use Rattle.nodeset.specs.Sets.{bit_at, has, count_below, first_of}
-use Rattle.nodeset.proofs.Bits.{bit_of_zero}
-use Rattle.nodeset.proofs.Firsts.{first_skip}
-use Rattle.nodeset.proofs.Members.{or_none}
+use Rattle.nodeset.specs.Sets.{bit_at, has}
+use Rattle.std.proofs.Math.Bool.{or-false, or_assoc}
+use Rattle.std.proofs.lemmas.Nat.Bits.{bit_at-zero}
 
 -- past the rows there is nothing
 none_has : (b : ℕ) → has no_nodes b ≡ false
@@ -17,10 +16,14 @@ none_has b =
     (ap (λ w. bit_at w (b % 64)) (elim (cases_lt (b / 64) 8) [
       | inl l ↦ get_or-replicate 8 (b / 64) 0 0 l
       | inr l ↦ get_or_past (replicate 8 0) (b / 64) 0 (omega (arith, l, length-replicate {A = ℕ} 8 0))
-    ]) ∙ bit_of_zero (b % 64))
+    ]) ∙ ap (λ d. eqb d 1) (bit_at-zero (b % 64)))
 
-pub past_rows : (sets : List NodeSet) (a b : ℕ) → length sets ≤ a → in_rows sets a b ≡ false
+past_rows : (sets : List NodeSet) (a b : ℕ) → length sets ≤ a → in_rows sets a b ≡ false
 past_rows sets a b h = ap (λ s. has s b) (get_or_past sets a no_nodes h) ∙ none_has b
+
+-- a row that is read
+pub row_read : (sets : List NodeSet) (a : ℕ) (row : NodeSet) → length sets ≡ 512 → a < 512 → row ≡ get_or sets a row → row ≡ get_or sets a no_nodes
+row_read sets a row long low is = get_or_read_under sets a 512 row no_nodes is low (sym long)
 
 -- rows that have nothing
 pub empty_rows : (sets : List NodeSet) (m : ℕ) (x : NodeSet) → sets ≡ replicate m x → ((b : ℕ) → has x b ≡ false) → (a b : ℕ) → in_rows sets a b ≡ false
@@ -30,14 +33,6 @@ empty_rows sets m x e off a b =
       | inl l ↦ ap (λ s. has s b) (get_or-replicate m a x no_nodes l) ∙ off b
       | inr l ↦ past_rows (replicate m x) a b (omega (arith, l, length-replicate m x))
     ]
-
--- a test that nothing passes
-pub count_none : (test : ℕ → Bool) (m : ℕ) → ((i : ℕ) → test i ≡ false) → count_below test m ≡ 0
-count_none test zero off = refl
-count_none test (suc m) off = ap₂ (λ x t. x + cond t 1 0) (count_none test m off) (off m)
-
-pub first_none : (test : ℕ → Bool) (i m : ℕ) → ((i : ℕ) → test i ≡ false) → first_of test i m ≡ None
-first_none test i m off = let z : m - m ≡ 0 = omega arith in first_skip test m m i (omega arith) (λ j l. off (i + j)) ∙ ap (first_of test (i + m)) z
 
 -- a row is changed
 module _ (sets : List NodeSet) (a : ℕ) (h : a < length sets) (row : NodeSet) where
@@ -54,7 +49,7 @@ module _ (sets : List NodeSet) (a : ℕ) (h : a < length sets) (row : NodeSet) w
         | inl e ↦
             own i j e ∙ is j
             ∙ ap₂ (λ x t. x || t) (ap (λ x. in_rows sets x j) (sym e)) (low_only ∙ sym (ap (λ t. t && eqb b j) (eq-eqb a i (sym e))))
-        | inr ne ↦ other i j ne ∙ sym (ap (λ t. in_rows sets i j || (t && eqb b j)) (ne_eqb a i (λ e. ne (sym e))) ∙ or_none (in_rows sets i j))
+        | inr ne ↦ other i j ne ∙ sym (ap (λ t. in_rows sets i j || (t && eqb b j)) (ne_eqb a i (λ e. ne (sym e))) ∙ or-false (in_rows sets i j))
       ] where
         low_only : (eqb b j && ltb j 512) ≡ eqb b j
         low_only =
@@ -83,7 +78,4 @@ rows_linked sets a b x y long la lb hx hy i j =
     let first = row_more sets a (omega (arith, long)) x b lb hx i j in
     let second = row_more (set sets a x) b (omega (arith, long, length-set sets a x)) y a la hy i j in
     second ∙ ap (λ t. t || (eqb b i && eqb a j)) first ∙ or_assoc (in_rows sets i j) (eqb a i && eqb b j) (eqb b i && eqb a j)
-    ∙ sym (ap₂ (λ s t. in_rows sets i j || ((s && t) && ((eqb a i && eqb b j) || (eqb b i && eqb a j)))) (lt-ltb a 512 la) (lt-ltb b 512 lb)) where
-      or_assoc : (x y z : Bool) → ((x || y) || z) ≡ (x || (y || z))
-      or_assoc true y z = refl
-      or_assoc false y z = refl
+    ∙ sym (ap₂ (λ s t. in_rows sets i j || ((s && t) && ((eqb a i && eqb b j) || (eqb b i && eqb a j)))) (lt-ltb a 512 la) (lt-ltb b 512 lb))

@@ -1,12 +1,12 @@
 -- Graphs in rows of sets.
-use Rattle.std.specs.Prelude.{ℕ, Bool, cond, not, ◌&&◌, ◌||◌, List, replicate, vec_items, ◌==◌, nat_lt, slice_index_or, refl}
+use Rattle.std.specs.Prelude.{ℕ, Bool, cond, not, ◌&&◌, ◌||◌, List, replicate, vec_items, ◌==◌, nat_lt, slice_index_or}
 use Rattle.nodeset.specs.declared.rows.Rows.{Rows}
 use Rattle.nodeset.specs.declared.sets.NodeSet.{NodeSet}
 use Rattle.nodeset.specs.Sets.{has}
 
 -- what is read past the rows
 abbrev pub no_nodes : NodeSet
-no_nodes = record { words = replicate 8 0; eight = refl }
+no_nodes = record { words = replicate 8 0 }
 
 -- whether two nodes are linked, in rows
 abbrev pub in_rows : List NodeSet → ℕ → ℕ → Bool

@@ -3,4 +3,6 @@
 
 pub mod rows;
 pub mod sets;
+#[cfg(test)]
+mod tests;
 mod words;

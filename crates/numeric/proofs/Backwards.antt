@@ -8,8 +8,9 @@ use Rattle.square.specs.Plans.{matrix_of}
 use Rattle.square.specs.Solution.{Vector, taken_from, backward}
 use Rattle.square.specs.Squares.{Matrix}
 use Rattle.numeric.specs.Passes.{backward_step}
-use Rattle.numeric.specs.Positions.{Position}
-use Rattle.numeric.proofs.Layouts.{Place, row_at, at_place, no_place, rising, row_position}
+use Rattle.plan.specs.Positions.{Position}
+use Rattle.plan.proofs.Spans.{row_at, rising, row_position}
+use Rattle.numeric.proofs.Layouts.{Place, at_place, no_place}
 
 -- positions with nothing in column k may be passed over
 take_skip : {X : Type 0} (s : Solvers X) (e : X) (m : Matrix X) (k : ℕ) (y : Vector X) → ((b x : X) → s.taken b e x ≡ b)
@@ -83,17 +84,14 @@ module _ {X : Type 0} (s : Solvers X) (e : X) (calm : (b x : X) → s.taken b e 
       let skip = take_skip s e M k y calm (n - row_at a (p - 1)) i 0 b (λ x m. between x (omega (arith, m.0)) (λ q l r. absurd (omega arith)) (omega arith)) in
       sym skip ∙ ap (λ z. taken_from s M k y b i z) (sym count) ∙ run
 
--- the pass back over the positions past k, and a step at k
-pub backward_on : {X : Type 0} (s : Solvers X) (m : Matrix X) (z y v : Vector X) (n k i : ℕ) → 0 < k → k ≤ n → 0 < i → i ≤ n
-    → ((i : ℕ) → 0 < i → i ≤ n → y i ≡ backward s m n z (n - k) i) → v i ≡ backward_step s m n k y i → v i ≡ backward s m n z (n - (k - 1)) i
-backward_on s m z y v n k i k-low k-high i-low i-high run is =
-    let at : k ≡ n - (n - k) = omega arith in
-    let next : suc (n - k) ≡ n - (k - 1) = omega arith in
-    let u = backward s m n z (n - k) in
-    let taken : taken_from s m k y (y k) (suc k) (n - k) ≡ taken_from s m k u (u k) (suc k) (n - k) =
-    ap (λ b. taken_from s m k y b (suc k) (n - k)) (run k k-low k-high)
-    ∙ take_same s m k y u (n - k) (suc k) (u k) (λ x l h. run x (omega arith) (omega arith)) in
-    is
-    ∙ ap₂ (λ x o. cond (eqb i k) (s.divided x (m k k)) o) taken (run i i-low i-high)
-    ∙ ap (λ x. cond (eqb i x) (s.divided (taken_from s m x u (u x) (suc x) (n - k)) (m x x)) (u i)) at
-    ∙ ap (λ x. backward s m n z x i) next
+-- the pass back over the last d positions, and a step at the one before
+pub backward_on : {X : Type 0} (s : Solvers X) (m : Matrix X) (z y v : Vector X) (n d i : ℕ) → d < n → 0 < i → i ≤ n
+    → ((i : ℕ) → 0 < i → i ≤ n → y i ≡ backward s m n z d i) → v i ≡ backward_step s m n (n - d) y i → v i ≡ backward s m n z (suc d) i
+backward_on s m z y v n d i more low high run is =
+    let k = n - d in
+    let count : n - k ≡ d = omega arith in
+    let u = backward s m n z d in
+    let taken : taken_from s m k y (y k) (suc k) (n - k) ≡ taken_from s m k u (u k) (suc k) d =
+    ap₂ (λ b x. taken_from s m k y b (suc k) x) (run k (omega arith) (omega arith)) count
+    ∙ take_same s m k y u d (suc k) (u k) (λ x l h. run x (omega arith) (omega arith)) in
+    is ∙ ap₂ (λ x o. cond (eqb i k) (s.divided x (m k k)) o) taken (run i low high)

@@ -1,5 +1,5 @@
 -- Forward past one column, and past all.
-use Rattle.std.proofs.Common.{◌≡◌, ℕ, suc, ◌+◌, ◌-◌, ◌<◌, ◌≤◌, cond, ltb, List, get_or, sym, refl, ap, ◌∙◌, ap₂, inl, inr, arith}
+use Rattle.std.proofs.Common.{◌≡◌, ℕ, suc, ◌+◌, ◌<◌, ◌≤◌, cond, ltb, List, get_or, sym, refl, ap, ◌∙◌, ap₂, inl, inr, arith}
 use Rattle.std.proofs.lemmas.Bool.{cases_eq, cases_lt, cond-true, cond-false, lt-ltb, le-ltb}
 use Rattle.arith.specs.Operations.{Operations}
 use Rattle.plan.specs.Lookups.{size_in, start_in}
@@ -8,8 +8,9 @@ use Rattle.square.specs.Plans.{matrix_of}
 use Rattle.square.specs.Solution.{Vector, forward}
 use Rattle.square.specs.Squares.{Matrix}
 use Rattle.numeric.specs.Passes.{forward_step}
-use Rattle.numeric.specs.Positions.{Position}
-use Rattle.numeric.proofs.Layouts.{row_at, find, at_place, no_place, diagonal, head, rising, row_past, row_position}
+use Rattle.plan.specs.Positions.{Position}
+use Rattle.plan.proofs.Spans.{row_at, head, rising, row_past, row_position}
+use Rattle.numeric.proofs.Layouts.{find, at_place, no_place, diagonal}
 
 -- the rows of column k at places below `limit` are updated
 pub record Forwarded {X : Type 0} (o : Operations X) (a : Arrays) (w : List X) (k limit : ℕ) (before after : Vector X) : Type 0 where
@@ -72,13 +73,8 @@ module _ {X : Type 0} (o : Operations X) (a : Arrays) (w : List X) (k : ℕ) (co
             ∙ sym (ap (λ u. o.updated (before i) u (matrix_of o.nothing a w k k) (before k)) (no_place o.nothing a w i k column.keeps no') ∙ law _ _ _)
       ]
 
--- the pass past k - 1 positions, and a step past k
-pub forward_on : {X : Type 0} (o : Operations X) (m : Matrix X) (b y z : Vector X) (n k i : ℕ) → 0 < k → k ≤ n → 0 < i → i ≤ n
-    → ((i : ℕ) → 0 < i → i ≤ n → y i ≡ forward o m b (k - 1) i) → z i ≡ forward_step o m k y i → z i ≡ forward o m b (k + 1 - 1) i
-forward_on o m b y z n k i k-low k-high i-low i-high run is =
-    let same : k ≡ suc (k - 1) = omega arith in
-    let next : suc (k - 1) ≡ k + 1 - 1 = omega arith in
-    is
-    ∙ ap₂ (λ u v. cond (ltb k i) (o.updated u (m i k) (m k k) v) u) (run i i-low i-high) (run k k-low k-high)
-    ∙ ap (λ x. forward_step o m x (forward o m b (k - 1)) i) same
-    ∙ ap (λ x. forward o m b x i) next
+-- the pass past k positions, and a step past the next
+pub forward_on : {X : Type 0} (o : Operations X) (m : Matrix X) (b y z : Vector X) (n k i : ℕ) → k < n → 0 < i → i ≤ n
+    → ((i : ℕ) → 0 < i → i ≤ n → y i ≡ forward o m b k i) → z i ≡ forward_step o m (suc k) y i → z i ≡ forward o m b (suc k) i
+forward_on o m b y z n k i more low high run is =
+    is ∙ ap₂ (λ u v. cond (ltb (suc k) i) (o.updated u (m i (suc k)) (m (suc k) (suc k)) v) u) (run i low high) (run (suc k) (omega arith) (omega arith))

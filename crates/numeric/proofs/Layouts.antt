@@ -5,16 +5,13 @@ use Rattle.std.proofs.lemmas.List.Edits.{length-between, get_or-between}
 use Rattle.std.proofs.lemmas.List.{drop_more, get_or-drop, get_or_read, length-drop}
 use Rattle.std.proofs.lemmas.Bool.{cases_eq, cases_lt, cases_order, cases_Bool, and_from, and_parts, or_cases, or_left, or_right, cond-true, cond-false, lt-ltb, le-leb, ltb-true, leb-true, eqb-true, eq-eqb, both_ways}
 use Rattle.graph.specs.Columns.{any_below}
+use Rattle.graph.proofs.Below.{any_here}
 use Rattle.plan.specs.Layout.{among_rows, holds, on_sheet}
 use Rattle.plan.specs.Lookups.{size_in, start_in, rows_in, place_in, index_from}
 use Rattle.plan.specs.Planned.{Arrays, Keeps}
-use Rattle.plan.proofs.Spans.{starts_rise, index_found, index_none}
+use Rattle.plan.proofs.Spans.{starts_ascend, row_at, column_some, column_ends, head, rising, row_past, row_position, index_found, index_none}
 use Rattle.square.specs.Plans.{place_at, number_at, matrix_of}
-use Rattle.numeric.specs.Positions.{Position}
-
--- the row at a place
-abbrev pub row_at : Arrays → ℕ → ℕ
-row_at a q = get_or a.rows q 0
+use Rattle.plan.specs.Positions.{Position}
 
 -- q is the place of row i in column j
 pub record Place (a : Arrays) (i j q : ℕ) : Type 0 where
@@ -25,54 +22,13 @@ pub record Place (a : Arrays) (i j q : ℕ) : Type 0 where
 
 -- ---- where columns stand
 
-pub starts_ascend : (a : Arrays) → Keeps a → (j k : ℕ) → 0 < j → j ≤ k → k ≤ size_in a + 1 → start_in a j ≤ start_in a k
-starts_ascend a keeps j k l h u =
-    let e : j - 1 + (k - j) ≡ k - 1 = omega arith in
-    omega (arith, starts_rise (size_in a) a.starts keeps.starting.2 (j - 1) (k - j) (omega arith), ap (λ x. get_or a.starts x 0) e)
-
 module _ (a : Arrays) (k : ℕ) (p : Position a k) where
-  pub column_some : start_in a k < start_in a (k + 1)
-  column_some =
-      let e : k - 1 + 1 ≡ k + 1 - 1 = omega (arith, p.low) in
-      omega (arith, p.keeps.starting.2 (k - 1) (omega (arith, p.low, p.high)), ap (λ x. get_or a.starts x 0) e)
-
-  pub column_ends : start_in a (k + 1) ≤ length a.rows
-  column_ends =
-      let e : size_in a + 1 - 1 ≡ size_in a = omega arith in
-      omega (arith, starts_ascend a p.keeps (k + 1) (size_in a + 1) (omega arith) (omega (arith, p.high)) (omega arith), ap (λ x. get_or a.starts x 0) e, p.keeps.starting.1)
-
-  pub head : row_at a (start_in a k) ≡ k
-  head = omega (arith, p.keeps.headed (k - 1) (omega (arith, p.low, p.high)), p.low)
-
-  rising_by : (q m : ℕ) → start_in a k ≤ q → q + m < start_in a (k + 1) → row_at a q + m ≤ row_at a (q + m)
-  rising_by q zero l h = let e : q ≡ q + 0 = omega arith in omega (arith, ap (row_at a) e)
-  rising_by q (suc m) l h =
-      let e : q + m + 1 ≡ q + suc m = omega arith in
-      let f : k - 1 + 1 ≡ k + 1 - 1 = omega (arith, p.low) in
-      let more : q + m + 1 < get_or a.starts (k - 1 + 1) 0 = omega (arith, ap (λ x. get_or a.starts x 0) f) in
-      omega (arith, rising_by q m l (omega arith), p.keeps.rising (k - 1) (q + m) (omega (arith, p.low, p.high)) (omega arith, more), ap (row_at a) e)
-
-  -- the rows of a column ascend
-  pub rising : (q t : ℕ) → start_in a k ≤ q → q < t → t < start_in a (k + 1) → row_at a q < row_at a t
-  rising q t l h u = let e : q + (t - q) ≡ t = omega arith in omega (arith, rising_by q (t - q) l (omega arith), ap (row_at a) e)
-
-  -- and past the diagonal they lie beyond it
-  pub row_past : (q : ℕ) → start_in a k < q → q < start_in a (k + 1) → k < row_at a q
-  row_past q l h = omega (arith, rising (start_in a k) q (omega arith) l h, head)
-
-  pub row_position : (q : ℕ) → start_in a k < q → q < start_in a (k + 1) → Position a (row_at a q)
-  row_position q l h = record {
-    keeps = p.keeps;
-    low = omega (arith, row_past q l h);
-    high = p.keeps.within q (omega (arith, column_ends));
-  }
-
   pub diagonal : Place a k k (start_in a k)
-  diagonal = record { column = p; low = omega arith; high = column_some; row = head }
+  diagonal = record { column = p; low = omega arith; high = column_some a k p; row = head a k p }
 
   -- column k lies before the column of each row below its diagonal
   pub target_past : (q : ℕ) → start_in a k < q → q < start_in a (k + 1) → start_in a (k + 1) ≤ start_in a (row_at a q)
-  target_past q l h = starts_ascend a p.keeps (k + 1) (row_at a q) (omega arith) (omega (arith, row_past q l h)) (omega (arith, (row_position q l h).high))
+  target_past q l h = starts_ascend a p.keeps (k + 1) (row_at a q) (omega arith) (omega (arith, row_past a k p q l h)) (omega (arith, (row_position a k p q l h).high))
 
 -- a place is in one column only
 pub same_column : (a : Arrays) (j k q : ℕ) → Position a j → Position a k → start_in a j ≤ q → q < start_in a (j + 1) → start_in a k ≤ q → q < start_in a (k + 1) → j ≡ k
@@ -204,13 +160,6 @@ among_some (x ∷ xs) zero i h = absurd (both_ways false refl h)
 among_some (x ∷ xs) (suc m) i h = elim (or_cases (eqb x i) (among_rows xs m i) h) [
   | inl e ↦ (0, omega arith, eqb-true x i e)
   | inr e ↦ (let f = among_some xs m i e in (suc f.0, omega (arith, f.1), f.2))
-]
-
-any_here : (test : ℕ → Bool) (m k : ℕ) → k < m → test k ≡ true → any_below test m ≡ true
-any_here test zero k h e = absurd (omega arith)
-any_here test (suc m) k h e = elim (cases_eq k m) [
-  | inl s ↦ or_right (any_below test m) (test m) (ap test (sym s) ∙ e)
-  | inr ne ↦ or_left (any_below test m) (test m) (any_here test m k (omega arith) e)
 ]
 
 module _ (a : Arrays) (i k : ℕ) (p : Position a k) where

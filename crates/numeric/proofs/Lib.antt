@@ -4,6 +4,7 @@ pub mod Layouts
 pub mod Orders
 pub mod Parts
 pub mod Ready
+pub mod Rows
 pub mod Runs
 pub mod Sweeps
 pub mod Tables

@@ -12,7 +12,8 @@ use Rattle.square.specs.Calls.{by_position, by_label}
 use Rattle.square.specs.Plans.{site_of, matrix_of}
 use Rattle.square.specs.Solution.{Vector, solution}
 use Rattle.numeric.specs.Calls.{all_fit, Solves}
-use Rattle.numeric.specs.Positions.{Position, HasLabel}
+use Rattle.plan.specs.Positions.{Position}
+use Rattle.numeric.specs.Labels.{HasLabel}
 
 module _ (a : Arrays) (k : ℕ) (p : Position a k) where
   pub label_some : (0 < label_in a k) × (label_in a k ≤ size_in a)

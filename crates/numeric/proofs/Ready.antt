@@ -1,13 +1,20 @@
 -- What the walk asks of the rows of a column and of its target, for the part of a plan's rows from the pivot on.
-use Rattle.std.proofs.Common.{◌≡◌, ℕ, ◌+◌, ◌-◌, ◌<◌, ◌≤◌, List, length, get_or, take, drop, ap, ◌∙◌, inl, inr, arith}
+use Rattle.std.proofs.Common.{◌≡◌, ℕ, ◌+◌, ◌-◌, ◌<◌, ◌≤◌, List, ◌∷◌, length, get_or, take, drop, ap, ◌∙◌, ap₂, inl, inr, arith}
 use Rattle.std.proofs.lemmas.List.{take_rest, get_or-drop}
 use Rattle.std.proofs.lemmas.Bool.{cases_eq}
 use Rattle.arith.specs.Operations.{Operations}
-use Rattle.plan.specs.Lookups.{start_in}
+use Rattle.plan.specs.declared.columns.Column.{Column}
+use Rattle.plan.specs.declared.plans.Plan.{Plan}
+use Rattle.plan.specs.Lookups.{start_in, rows_in}
 use Rattle.plan.specs.Planned.{Arrays}
-use Rattle.numeric.specs.Positions.{Position}
+use Rattle.plan.specs.Positions.{Position}
+use Rattle.plan.specs.Views.{arrays_of}
+use Rattle.plan.specs.Walks.{column_is, columns_at}
+use Rattle.plan.proofs.Kept.{position}
+use Rattle.plan.proofs.Walks.{later_more}
 use Rattle.numeric.specs.Updates.{Updated, Ascends, Contained}
-use Rattle.numeric.proofs.Layouts.{Place, row_at, column_some, head, rising, row_position, target_past, closing}
+use Rattle.plan.proofs.Spans.{row_at, column_some, head, rising, row_position, rows_long, row_there}
+use Rattle.numeric.proofs.Layouts.{Place, target_past, closing}
 
 -- column k is start..past, and the column of the row at its place `source` is target..stop
 pub record Aimed (a : Arrays) (k source start past target stop : ℕ) (rows : List ℕ) : Type 0 where
@@ -20,20 +27,33 @@ pub record Aimed (a : Arrays) (k source start past target stop : ℕ) (rows : Li
   pub low : start < source
   pub high : source < past
 
--- with the row read from the slice
-pub aim : (a : Arrays) (k source start past target stop : ℕ) (rows : List ℕ) → Position a k → rows ≡ a.rows → start ≡ start_in a k → past ≡ start_in a (k + 1)
-    → target ≡ start_in a (get_or rows source 0) → stop ≡ start_in a (get_or rows source 0 + 1) → start < source → source < past
-    → Aimed a k source start past target stop rows
-aim a k source start past target stop rows column rows_is start_is past_is target_is stop_is low high = record {
-  column = column;
-  rows_is = rows_is;
-  start_is = start_is;
-  past_is = past_is;
-  target_is = target_is ∙ ap (λ l. start_in a (get_or l source 0)) rows_is;
-  stop_is = stop_is ∙ ap (λ l. start_in a (get_or l source 0 + 1)) rows_is;
-  low = low;
-  high = high;
-}
+-- with the column of that row, the first of those that are left
+pub aim : (column later : Column) (source start past target stop : ℕ) (rows : List ℕ) (left : List (Plan × ℕ))
+    → rows ≡ (arrays_of column.plan.now).rows
+    → start ≡ start_in (arrays_of column.plan.now) column.position → past ≡ start_in (arrays_of column.plan.now) (column.position + 1)
+    → target ≡ start_in (arrays_of later.plan.now) later.position → stop ≡ start_in (arrays_of later.plan.now) (later.position + 1)
+    → start_in (arrays_of column.plan.now) column.position < source → source < start_in (arrays_of column.plan.now) (column.position + 1)
+    → columns_at column.plan.now (drop (source - (start_in (arrays_of column.plan.now) column.position + 1)) (rows_in (arrays_of column.plan.now) column.position)) ≡ column_is later ∷ left
+    → Aimed (arrays_of column.plan.now) column.position source start past target stop rows
+aim column later source start past target stop rows left rows_is start_is past_is target_is stop_is low high first =
+    let a = arrays_of column.plan.now in
+    let k = column.position in
+    let here = position column in
+    let i = source - (start_in a k + 1) in
+    let h : i < length (rows_in a k) = omega (arith, rows_long a k here) in
+    let f = later_more column.plan.now later left (rows_in a k) i h first in
+    let there : start_in a k + 1 + i ≡ source = omega arith in
+    let row : later.position ≡ row_at a source = f.1 ∙ row_there a k here i h ∙ ap (row_at a) there in
+    record {
+      column = here;
+      rows_is = rows_is;
+      start_is = start_is;
+      past_is = past_is;
+      target_is = target_is ∙ ap₂ (λ p j. start_in (arrays_of p) j) f.0 row;
+      stop_is = stop_is ∙ ap₂ (λ p j. start_in (arrays_of p) (j + 1)) f.0 row;
+      low = omega (arith, start_is);
+      high = omega (arith, past_is);
+    }
 
 module _ (a : Arrays) (k source start past target stop : ℕ) (rows : List ℕ) (aimed : Aimed a k source start past target stop rows) where
   part_row : (x : ℕ) → get_or (take (length rows - start) (drop start rows)) x 0 ≡ row_at a (start + x)

@@ -7,9 +7,10 @@ use Rattle.plan.specs.Planned.{Arrays}
 use Rattle.square.specs.Elimination.{reduced}
 use Rattle.square.specs.Plans.{matrix_of}
 use Rattle.square.specs.Squares.{Matrix}
-use Rattle.numeric.specs.Positions.{Position}
+use Rattle.plan.specs.Positions.{Position}
 use Rattle.numeric.specs.Updates.{Updated}
-use Rattle.numeric.proofs.Layouts.{Place, row_at, same_column, find, at_place, no_place, diagonal, head, rising, row_past, row_position, target_past, closing}
+use Rattle.plan.proofs.Spans.{row_at, head, rising, row_past, row_position}
+use Rattle.numeric.proofs.Layouts.{Place, same_column, find, at_place, no_place, diagonal, target_past, closing}
 
 -- p is the place of a row in column k, below `limit`, b that of a row no earlier, and q that of the row of b in the column of the row of p
 pub record Crosses (a : Arrays) (k limit p b q : ℕ) : Type 0 where

@@ -12,8 +12,9 @@ use Rattle.square.specs.declared.refusals.Refusal.{Refusal}
 use Rattle.square.specs.declared.refusals.Refusal.TheVariants.{WrongLength}
 use Rattle.square.specs.Plans.{matrix_of}
 use Rattle.numeric.specs.Calls.{table_of, work_of, answer_of, both_fit, Eliminates}
-use Rattle.numeric.specs.Positions.{Position}
-use Rattle.numeric.proofs.Layouts.{row_at, column_some, column_ends, column_is, at_place}
+use Rattle.plan.specs.Positions.{Position}
+use Rattle.plan.proofs.Spans.{row_at, column_some, column_ends}
+use Rattle.numeric.proofs.Layouts.{column_is, at_place}
 
 -- two parts that meet
 take_between : {X : Type 0} (xs : List X) (i j : ℕ) → i ≤ j → take i xs ++ between i j xs ≡ take j xs

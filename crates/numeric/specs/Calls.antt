@@ -1,12 +1,12 @@
 -- What elimination and solving answer, and what they leave in the tables that they are lent.
-use Rattle.std.specs.Prelude.{◌≡◌, ℕ, Bool, true, cond, ◌&&◌, List, ◌∷◌, map, length, Some, None, Ok, Err, Option, Result, ◌==◌}
+use Rattle.std.specs.Prelude.{◌≡◌, ℕ, Bool, true, cond, ◌&&◌, List, ◌∷◌, map, length, Ok, Err, Option, Result, ◌==◌}
 use Rattle.std.specs.List.{range_with_len, flat_map}
 use Rattle.arith.specs.Operations.{Operations, Solvers}
-use Rattle.plan.specs.Lookups.{size_in, label_in, rows_in}
+use Rattle.plan.specs.Lookups.{size_in, rows_in}
 use Rattle.plan.specs.Planned.{Arrays}
 use Rattle.square.specs.declared.refusals.Refusal.{Refusal}
-use Rattle.square.specs.declared.refusals.Refusal.TheVariants.{WrongLength, NoPivot}
-use Rattle.square.specs.Calls.{levels}
+use Rattle.square.specs.declared.refusals.Refusal.TheVariants.{WrongLength}
+use Rattle.square.specs.Calls.{answer_after, levels}
 use Rattle.square.specs.Elimination.{Work, eliminated}
 use Rattle.square.specs.Plans.{site_of, matrix_of}
 use Rattle.square.specs.Squares.{Matrix}
@@ -23,8 +23,7 @@ work_of o a entered = eliminated o (matrix_of o.nothing a entered) (size_in a)
 
 -- the answer to an elimination by where it stuck: the label there, and the cause
 abbrev pub answer_of : Arrays → Option (ℕ × ℕ) → Result (Unit {0}) Refusal
-answer_of a None = Ok tt
-answer_of a (Some at) = Err (NoPivot (label_in a at.0) at.1)
+answer_of a = answer_after (site_of a) tt
 
 -- whether both tables have a number for each place
 abbrev pub both_fit : {X : Type 0} → Arrays → List X → List X → Bool

@@ -1,4 +1,4 @@
 pub mod Calls
+pub mod Labels
 pub mod Passes
-pub mod Positions
 pub mod Updates

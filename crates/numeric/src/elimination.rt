@@ -5,59 +5,55 @@ ghost use Rattle.plan.specs.Views.{arrays_of};
 ghost use Rattle.square.specs.Elimination.{reduced};
 ghost use Rattle.square.specs.Plans.{matrix_of};
 ghost use Rattle.numeric.specs.Calls.{Eliminates};
-ghost use Rattle.numeric.specs.Positions.{Position};
 ghost use Rattle.numeric.specs.Updates.{Ascends, Contained, Updated};
 
-use crate::columns::span;
 use arith::arithmetic::Arithmetic;
+use plan::columns::Column;
 use plan::plans::Plan;
 use square::refusals::Refusal;
+use std::ops::Range;
 
-/// Updates the target column, at the places `target..stop`, by the rows `source..past` of the pivot's column. `rows` and `worked`
-/// begin at the pivot. Both columns ascend and the target has every row of the source, so that one walk meets them all.
+/// Updates a later column, at the places `targets`, by the rows `sources` of the pivot's column. `rows` and `worked` begin at the
+/// pivot. Both columns ascend and the target has every row of the source, so that one walk meets them all.
 fn update_column<N: Arithmetic>(
     rows: &[u16],
     worked: &mut [N],
-    source: usize,
-    past: usize,
-    target: usize,
-    stop: usize,
+    sources: Range<usize>,
+    targets: Range<usize>,
 )
     requires long { length rows.now ≡ length worked.old }
-    requires ordered { (source < past) × (past ≤ target) × (target ≤ stop) × (stop ≤ length worked.old) }
-    requires sources { Ascends rows.now source past }
-    requires targets { Ascends rows.now target stop }
-    requires contained { Contained rows.now source past target stop }
-    ensures { Updated (operations_of N.Arithmetic) rows.now 0 source past target stop worked.old worked.new }
+    requires ordered { (sources.start < sources.end) × (sources.end ≤ targets.start) × (targets.start ≤ targets.end) × (targets.end ≤ length worked.old) }
+    requires rises { Ascends rows.now sources.start sources.end }
+    requires rises_later { Ascends rows.now targets.start targets.end }
+    requires contained { Contained rows.now sources.start sources.end targets.start targets.end }
+    ensures { Updated (operations_of N.Arithmetic) rows.now 0 sources.start sources.end targets.start targets.end worked.old worked.new }
 {
     let pivot = worked[0];
-    let factor = worked[source];
-    let mut next = source;
-    for at in target..stop {
-        if next < past && rows[at] == rows[next] {
+    let factor = worked[sources.start];
+    let mut next = sources.start;
+    // By places: as pairs, rows and numbers would take a split of the table and two ranges more.
+    for at in targets {
+        if next < sources.end && rows[at] == rows[next] {
             worked[at] = N::update(worked[at], worked[next], pivot, factor);
             next += 1;
         }
     }
 }
 
-/// The step of position k: each column that column k has a row of is updated.
-fn eliminate_column<N: Arithmetic>(plan: &Plan, worked: &mut [N], k: u16)
-    requires position { Position (arrays_of plan.now) k }
-    requires long { length worked.old ≡ length (arrays_of plan.now).rows }
-    ensures { (i j : ℕ) → matrix_of N.Arithmetic.nothing (arrays_of plan.now) worked.new i j ≡ reduced (operations_of N.Arithmetic) k (matrix_of N.Arithmetic.nothing (arrays_of plan.now) worked.old) i j }
+/// The step of a column: each column that it has a row of is updated.
+fn eliminate_column<N: Arithmetic>(column: Column<'_>, worked: &mut [N])
+    requires { length worked.old ≡ length (arrays_of column.plan.now).rows }
+    ensures { (i j : ℕ) → matrix_of N.Arithmetic.nothing (arrays_of column.entry.plan.now) worked.new i j ≡ reduced (operations_of N.Arithmetic) column.entry.position (matrix_of N.Arithmetic.nothing (arrays_of column.entry.plan.now) worked.old) i j }
 {
-    let rows = plan.rows();
-    let (start, past) = span(plan, k);
-    for source in start + 1..past {
-        let (target, stop) = span(plan, rows[source]);
+    let rows = column.plan.rows();
+    let Range { start, end } = column.places();
+    for (target, source) in column.later().zip(start + 1..end) {
+        let targets = target.places();
         update_column(
             &rows[start..],
             &mut worked[start..],
-            source - start,
-            past - start,
-            target - start,
-            stop - start,
+            source - start..end - start,
+            targets.start - start..targets.end - start,
         );
     }
 }
@@ -73,14 +69,12 @@ pub fn eliminate<N: Arithmetic>(plan: &Plan, entered: &[N], worked: &mut [N]) ->
         return Err(Refusal::WrongLength);
     }
     worked.copy_from_slice(entered);
-    let n = plan.n();
-    for k in 1..=n {
-        let (start, _) = span(plan, k);
-        let cause = N::verdict(worked[start]);
+    for column in plan.columns() {
+        let cause = N::verdict(worked[column.places().start]);
         if cause != 0 {
-            return Err(Refusal::NoPivot(plan.order()[k as usize - 1], cause));
+            return Err(Refusal::NoPivot(column.label(), cause));
         }
-        eliminate_column(plan, worked, k);
+        eliminate_column(column, worked);
     }
     Ok(())
 }

@@ -1,6 +1,5 @@
 //! Elimination and solving in the tables that a plan lays out, equal to those in the full square.
 #![tactic(auto)]
 
-mod columns;
 pub mod elimination;
 pub mod solution;

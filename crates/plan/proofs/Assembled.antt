@@ -4,36 +4,33 @@ use Rattle.std.specs.List.{range_with_len, flat_map, AllByRecursion as All}
 use Rattle.std.proofs.lemmas.List.FromFn.{get_or-map-range_with_len}
 use Rattle.std.proofs.ByRecursion.{All-append, All-get_or}
 use Rattle.std.proofs.lemmas.List.{append_assoc, length-append, drop_at, get_or-drop, get_or_append_left}
-use Rattle.std.proofs.lemmas.Bool.{cases_lt, eqb-true, ne_eqb, and_right, or_from, true≢false}
+use Rattle.std.proofs.lemmas.Bool.{cases_lt, and_right}
+use Rattle.std.proofs.lemmas.Bool.Decides.{nat_tests}
 use Rattle.graph.specs.Columns.{in_column, column, places, member, any_below}
 use Rattle.graph.specs.Graphs.{Graph}
 use Rattle.graph.specs.Picking.{Price, picked}
 use Rattle.graph.proofs.Equations.{linked_after}
-use Rattle.graph.proofs.Orders.{member_kept, and_none, counting_within, counting_outside, member_from, member_none}
+use Rattle.graph.proofs.Orders.{member_kept, counting_within, counting_outside, member_from, member_none}
 use Rattle.plan.specs.Layout.{Starts, Diagonals, Rises, Within, among_rows, holds, marked, on_sheet, Closed}
 use Rattle.plan.specs.Laid.{laid_rows, laid_starts, laid_marks, sheet_link}
-use Rattle.plan.proofs.Lays.{rows_fit, marks_length}
+use Rattle.plan.proofs.Lays.{rows_more, rows_fit, marks_length}
 
 joined_split : {X : Type 0} (f : ℕ → List X) (m a d : ℕ) → flat_map f (range_with_len a (m + d)) ≡ flat_map f (range_with_len a m) ++ flat_map f (range_with_len (a + m) d)
-joined_split f zero a d =
-    let e : 0 + d ≡ d = omega arith in
-    let e' : a ≡ a + 0 = omega arith in
-    ap₂ (λ x y. flat_map f (range_with_len y x)) e e'
+joined_split f zero a d = grind arith
 joined_split f (suc m) a d =
     let e : suc m + d ≡ suc (m + d) = omega arith in
-    let e' : a + 1 + m ≡ a + suc m = omega arith in
-    ap (λ x. flat_map f (range_with_len a x)) e ∙ ap (λ ls. f a ++ ls) (joined_split f m (a + 1) d)
-    ∙ ap (λ x. f a ++ (flat_map f (range_with_len (a + 1) m) ++ flat_map f (range_with_len x d))) e'
-    ∙ sym (append_assoc (f a) (flat_map f (range_with_len (a + 1) m)) (flat_map f (range_with_len (a + suc m) d)))
+    grind (
+      arith,
+      ap (λ x. flat_map f (range_with_len a x)) e,
+      joined_split f m (a + 1) d,
+      append_assoc (f a) (flat_map f (range_with_len (a + 1) m)) (flat_map f (range_with_len (a + suc m) d)),
+    )
 
 -- what stands before column k + 1, the column, and what stands after it
 pub joined_at : {X : Type 0} (f : ℕ → List X) (n k : ℕ) → k < n
     → flat_map f (range_with_len 1 n) ≡ flat_map f (range_with_len 1 k) ++ (f (k + 1) ++ flat_map f (range_with_len (k + 1 + 1) (n - (k + 1))))
 joined_at f n k h =
-    let e : n ≡ k + suc (n - (k + 1)) = omega arith in
-    let e' : 1 + k ≡ k + 1 = omega arith in
-    ap (λ x. flat_map f (range_with_len 1 x)) e ∙ joined_split f k 1 (suc (n - (k + 1)))
-    ∙ ap (λ x. flat_map f (range_with_len 1 k) ++ flat_map f (range_with_len x (suc (n - (k + 1))))) e'
+    grind (arith, joined_split f k 1 (suc (n - (k + 1))))
 
 start_is : (col : ℕ → List ℕ) (n k : ℕ) → k ≤ n → get_or (laid_starts col n) k 0 ≡ length (laid_rows col k)
 start_is col n k h = get_or-map-range_with_len (λ m. length (laid_rows col m)) 0 (n + 1) k k 0 (omega arith) (omega arith)
@@ -55,36 +52,24 @@ part_is col n k h =
 pub part_length : (col : ℕ → List ℕ) (n k : ℕ) → k < n
     → get_or (laid_starts col n) (k + 1) 0 - get_or (laid_starts col n) k 0 ≡ length ((k + 1) ∷ col (k + 1))
 part_length col n k h =
-    let e : length (laid_rows col (k + 1)) ≡ length (laid_rows col k) + length ((k + 1) ∷ col (k + 1)) =
-    ap (λ ls. length ls) (joined_at (λ j. j ∷ col j) (k + 1) k (omega arith))
-    ∙ length-append (laid_rows col k) (((k + 1) ∷ col (k + 1)) ++ flat_map (λ j. j ∷ col j) (range_with_len (k + 1 + 1) (k + 1 - (k + 1))))
-    ∙ ap (λ x. length (laid_rows col k) + x)
-    (length-append ((k + 1) ∷ col (k + 1)) (flat_map (λ j. j ∷ col j) (range_with_len (k + 1 + 1) (k + 1 - (k + 1))))
-    ∙ (let z : k + 1 - (k + 1) ≡ 0 = omega arith in
-    let y : length (flat_map (λ j. j ∷ col j) (range_with_len (k + 1 + 1) (k + 1 - (k + 1)))) ≡ 0 = ap (λ x. length (flat_map (λ j. j ∷ col j) (range_with_len (k + 1 + 1) x))) z in
-    omega arith)) in
-    omega (arith, start_is col n k (omega arith), start_is col n (k + 1) (omega arith))
+    omega (
+      arith,
+      start_is col n k (omega arith),
+      start_is col n (k + 1) (omega arith),
+      ap (λ ls. length ls) (rows_more col k),
+      length-append (laid_rows col k) ((k + 1) ∷ col (k + 1)),
+    )
 
 pub diagonals_stand : (col : ℕ → List ℕ) (n : ℕ) → Diagonals n (laid_starts col n) (laid_rows col n)
 diagonals_stand col n k h =
-    let e : get_or (laid_starts col n) k 0 ≡ get_or (laid_starts col n) k 0 + 0 = omega arith in
-    ap (λ x. get_or (laid_rows col n) x 0) e ∙ sym (get_or-drop (get_or (laid_starts col n) k 0) (laid_rows col n) 0 0)
-    ∙ ap (λ ls. get_or ls 0 0) (part_is col n k h)
+    grind (arith, get_or-drop (get_or (laid_starts col n) k 0) (laid_rows col n) 0 0, ap (λ ls. get_or ls 0 0) (part_is col n k h))
 
 -- a column ascends from its diagonal on
-rises_step : (test : ℕ → Bool) (s m x : ℕ) → x < s
-    → ((y : ℕ) → y < s + 1 → (q : ℕ) → suc q < length (y ∷ filter test (range_with_len (s + 1) m)) → get_or (y ∷ filter test (range_with_len (s + 1) m)) q 0 < get_or (y ∷ filter test (range_with_len (s + 1) m)) (suc q) 0)
-    → (t : Bool) (q : ℕ) → suc q < length (x ∷ cond t (s ∷ filter test (range_with_len (s + 1) m)) (filter test (range_with_len (s + 1) m)))
-    → get_or (x ∷ cond t (s ∷ filter test (range_with_len (s + 1) m)) (filter test (range_with_len (s + 1) m))) q 0
-    < get_or (x ∷ cond t (s ∷ filter test (range_with_len (s + 1) m)) (filter test (range_with_len (s + 1) m))) (suc q) 0
-rises_step test s m x l h true zero q = l
-rises_step test s m x l h true (suc p) q = h s (omega arith) p (omega arith)
-rises_step test s m x l h false p q = h x (omega arith) p q
-
 kept_rises : (test : ℕ → Bool) (m s x : ℕ) → x < s → (q : ℕ) → suc q < length (x ∷ filter test (range_with_len s m))
     → get_or (x ∷ filter test (range_with_len s m)) q 0 < get_or (x ∷ filter test (range_with_len s m)) (suc q) 0
 kept_rises test zero s x l q h = absurd (omega (arith, h))
-kept_rises test (suc m) s x l q h = rises_step test s m x l (λ y z p w. kept_rises test m (s + 1) y z p w) (test s) q h
+kept_rises test (suc m) s x l zero h = grind (arith, nat_tests, kept_rises test m (s + 1) x (omega arith) zero)
+kept_rises test (suc m) s x l (suc q) h = grind (arith, nat_tests, kept_rises test m (s + 1) x (omega arith) (suc q), kept_rises test m (s + 1) s (omega arith) q)
 
 abbrev chosen : ℕ → (ℕ → ℕ → Bool) → ℕ → List ℕ
 chosen n test k = filter (test k) (range_with_len (k + 1) (n - k))
@@ -93,7 +78,6 @@ pub rises_stand : (n : ℕ) (test : ℕ → ℕ → Bool) → Rises n (laid_star
 rises_stand n test k p h b =
     let col = chosen n test in
     let s = get_or (laid_starts col n) k 0 in
-    let q = p - s in
     let e : p ≡ s + (p - s) = omega (arith, b.0) in
     let e' : p + 1 ≡ s + suc (p - s) = omega (arith, b.0) in
     let len : suc (p - s) < length ((k + 1) ∷ col (k + 1)) = omega (arith, part_length col n k h, b.0, b.1) in
@@ -133,31 +117,17 @@ among_append [] [] i = refl
 among_append [] (y ∷ ys) i = refl
 among_append (x ∷ xs) ys i = ap (λ t. eqb x i || t) (among_append xs ys i)
 
-marked_step : (f : ℕ → Bool) (x i : ℕ) (m : Bool) (t : Bool) → eqb x i ≡ t → ((t && f x) || (m && f i)) ≡ ((t || m) && f i)
-marked_step f x i m false e = refl
-marked_step f x i true true e = ap (λ y. y || f i) (ap f (eqb-true x i e)) ∙ or_same (f i)
-  where
-    or_same : (y : Bool) → (y || y) ≡ y
-    or_same true = refl
-    or_same false = refl
-marked_step f x i false true e = or_none (f x) ∙ ap f (eqb-true x i e)
-  where
-    or_none : (y : Bool) → (y || false) ≡ y
-    or_none true = refl
-    or_none false = refl
-
 marked_append : (f : ℕ → Bool) (xs ys : List ℕ) (cs : List Bool) (i : ℕ) → marked (xs ++ ys) (map f xs ++ cs) (length xs) i ≡ (member i xs && f i)
 marked_append f [] [] cs i = refl
 marked_append f [] (y ∷ ys) [] i = refl
 marked_append f [] (y ∷ ys) (c ∷ cs) i = refl
-marked_append f (x ∷ xs) ys cs i =
-    ap (λ t. (eqb x i && f x) || t) (marked_append f xs ys cs i) ∙ marked_step f x i (member i xs) (eqb x i) refl
+marked_append f (x ∷ xs) ys cs i = grind (arith, nat_tests, marked_append f xs ys cs i)
 
 pub holds_is : (col : ℕ → List ℕ) (n j i : ℕ) → j < n → j + 1 < i → holds (laid_starts col n) (laid_rows col n) j i ≡ member i (col (j + 1))
 holds_is col n j i h l =
     ap₂ (λ ls m. among_rows ls m i) (part_is col n j h) (part_length col n j h)
     ∙ among_append ((j + 1) ∷ col (j + 1)) (flat_map (λ j. j ∷ col j) (range_with_len (j + 1 + 1) (n - (j + 1)))) i
-    ∙ ap (λ t. t || member i (col (j + 1))) (ne_eqb (j + 1) i (λ e. omega arith))
+    ∙ grind (arith, nat_tests)
 
 marks_part : (col : ℕ → List ℕ) (mark : ℕ → ℕ → Bool) (n k : ℕ) → k < n
     → drop (get_or (laid_starts col n) k 0) (laid_marks col mark n) ≡ (false ∷ map (mark (k + 1)) (col (k + 1))) ++ flat_map (λ j. false ∷ map (mark j) (col j)) (range_with_len (k + 1 + 1) (n - (k + 1)))
@@ -170,33 +140,31 @@ pub on_sheet_is : (col : ℕ → List ℕ) (mark : ℕ → ℕ → Bool) (n j i 
 on_sheet_is col mark n j i h =
     ap₂ (λ ls m. marked ls (drop (get_or (laid_starts col n) j 0) (laid_marks col mark n)) m i) (part_is col n j h) (part_length col n j h)
     ∙ ap (λ bs. marked (((j + 1) ∷ col (j + 1)) ++ flat_map (λ j. j ∷ col j) (range_with_len (j + 1 + 1) (n - (j + 1)))) bs (length ((j + 1) ∷ col (j + 1))) i) (marks_part col mark n j h)
-    ∙ ap (λ t. t || marked (col (j + 1) ++ flat_map (λ j. j ∷ col j) (range_with_len (j + 1 + 1) (n - (j + 1)))) (map (mark (j + 1)) (col (j + 1)) ++ flat_map (λ j. false ∷ map (mark j) (col j)) (range_with_len (j + 1 + 1) (n - (j + 1)))) (length (col (j + 1))) i)
-    (and_none (eqb (j + 1) i))
-    ∙ marked_append (mark (j + 1)) (col (j + 1)) (flat_map (λ j. j ∷ col j) (range_with_len (j + 1 + 1) (n - (j + 1)))) (flat_map (λ j. false ∷ map (mark j) (col j)) (range_with_len (j + 1 + 1) (n - (j + 1)))) i
+    ∙ grind (
+      arith,
+      marked_append (mark (j + 1)) (col (j + 1)) (flat_map (λ j. j ∷ col j) (range_with_len (j + 1 + 1) (n - (j + 1)))) (flat_map (λ j. false ∷ map (mark j) (col j)) (range_with_len (j + 1 + 1) (n - (j + 1)))) i,
+    )
 
 chosen_in : (n : ℕ) (test : ℕ → ℕ → Bool) (k i : ℕ) → k < i → i ≤ n → member i (chosen n test k) ≡ test k i
 chosen_in n test k i l h =
-    member_kept (test k) i (range_with_len (k + 1) (n - k))
-    ∙ ap (λ t. t && test k i) (member_from i (range_with_len (k + 1) (n - k)) (counting_within i (k + 1) (n - k) (omega arith) (omega arith)))
+    let among = range_with_len (k + 1) (n - k) in
+    grind (arith, member_kept (test k) i among, member_from i among (counting_within i (k + 1) (n - k) (omega arith) (omega arith)))
 
 chosen_out : (n : ℕ) (test : ℕ → ℕ → Bool) (k i : ℕ) → n < i → k ≤ n → member i (chosen n test k) ≡ false
 chosen_out n test k i l h =
-    member_kept (test k) i (range_with_len (k + 1) (n - k))
-    ∙ ap (λ t. t && test k i) (member_none i (range_with_len (k + 1) (n - k)) (counting_outside i (k + 1) (n - k) (omega arith)))
+    let among = range_with_len (k + 1) (n - k) in
+    grind (arith, member_kept (test k) i among, member_none i among (counting_outside i (k + 1) (n - k) (omega arith)))
 
 any_same : (P Q : ℕ → Bool) (j : ℕ) → ((k : ℕ) → k < j → P k ≡ Q k) → any_below P j ≡ any_below Q j
 any_same P Q zero h = refl
-any_same P Q (suc j) h = ap₂ (λ x y. x || y) (any_same P Q j (λ k l. h k (omega arith))) (h j (omega arith))
+any_same P Q (suc j) h = grind (arith, any_same P Q j (λ k l. h k (omega arith)), h j)
 
 any_none : (P : ℕ → Bool) (j : ℕ) → ((k : ℕ) → k < j → P k ≡ false) → any_below P j ≡ false
 any_none P zero h = refl
-any_none P (suc j) h = or_from (any_below P j) (P j) (any_none P j (λ k l. h k (omega arith))) (h j (omega arith))
+any_none P (suc j) h = grind (arith, any_none P j (λ k l. h k (omega arith)), h j)
 
 absorbs : (x l a : Bool) → x ≡ (l || a) → x ≡ ((x && l) || a)
-absorbs true true a e = refl
-absorbs true false a e = e
-absorbs false true a e = absurd (true≢false (sym e))
-absorbs false false a e = e
+absorbs x l a e = grind (arith, e)
 
 pub closed_stands : (price : Price) (n : ℕ) (g : Graph)
     → Closed n (laid_starts (column price g n) n) (laid_rows (column price g n) n) (laid_marks (column price g n) (sheet_link price g) n)
@@ -211,27 +179,25 @@ closed_stands price n g j i h =
     let on = on_sheet_is col (sheet_link price g) n j i h.0 in
     elim (cases_lt n i) [
       | inl out ↦
-          (let none' : member i (col (j + 1)) ≡ false = chosen_out n test (j + 1) i out (omega (arith, h.0)) in
-          here ∙ none'
-          ∙ sym (or_from (on_sheet S R M j i) (any_below (λ k. holds S R k (j + 1) && holds S R k i) j)
-          (on ∙ ap (λ t. t && sheet_link price g (j + 1) i) none')
-          (any_none (λ k. holds S R k (j + 1) && holds S R k i) j (λ k l.
-          and_right (holds S R k (j + 1)) (holds S R k i)
-          (holds_is col n k i (omega (arith, h.0)) (omega (arith, h.1)) ∙ chosen_out n test (k + 1) i out (omega (arith, h.0)))))))
+          (let none : (k : ℕ) → k ≤ j → (holds S R k i ≡ false) × (member i (col (k + 1)) ≡ false) =
+          λ k l. let o = chosen_out n test (k + 1) i out (omega (arith, h.0)) in (holds_is col n k i (omega (arith, h.0)) (omega (arith, h.1)) ∙ o, o) in
+          grind (arith, none j, on, any_none (λ k. holds S R k (j + 1) && holds S R k i) j (λ k l. and_right (holds S R k (j + 1)) (holds S R k i) (none k (omega arith)).0)))
       | inr within' ↦
-          (let is : member i (col (j + 1)) ≡ in_column price g j (i - 1) =
-          chosen_in n test (j + 1) i h.1 within' ∙ ap (λ x. in_column price g x (i - 1)) j_is in
-          let link : sheet_link price g (j + 1) i ≡ g.linked (picked price g j) (picked price g (i - 1)) =
-          ap (λ x. g.linked (picked price g x) (picked price g (i - 1))) j_is in
-          let below : any_below (λ k. holds S R k (j + 1) && holds S R k i) j ≡ any_below (λ k. in_column price g k j && in_column price g k (i - 1)) j =
-          any_same (λ k. holds S R k (j + 1) && holds S R k i) (λ k. in_column price g k j && in_column price g k (i - 1)) j (λ k l.
+          (let held : (k x : ℕ) → k ≤ j → k + 1 < x → x ≤ i → holds S R k x ≡ in_column price g k (x - 1) =
+          λ k x l u v.
           let k_is : k + 1 - 1 ≡ k = omega arith in
-          ap₂ (λ x y. x && y)
-          (holds_is col n k (j + 1) (omega (arith, h.0)) (omega arith) ∙ chosen_in n test (k + 1) (j + 1) (omega arith) (omega (arith, h.0)) ∙ ap₂ (λ x y. in_column price g x y) k_is j_is)
-          (holds_is col n k i (omega (arith, h.0)) (omega (arith, h.1)) ∙ chosen_in n test (k + 1) i (omega (arith, h.1)) within' ∙ ap (λ x. in_column price g x (i - 1)) k_is)) in
-          here ∙ is
-          ∙ absorbs (in_column price g j (i - 1)) (g.linked (picked price g j) (picked price g (i - 1))) (any_below (λ k. in_column price g k j && in_column price g k (i - 1)) j) (linked_after price g j (picked price g j) (picked price g (i - 1)))
-          ∙ sym (ap₂ (λ x y. x || y) (on ∙ ap₂ (λ x y. x && y) is link) below))
+          holds_is col n k x (omega (arith, h.0)) u ∙ chosen_in n test (k + 1) x u (omega arith) ∙ ap (λ y. in_column price g y (x - 1)) k_is in
+          let below : any_below (λ k. holds S R k (j + 1) && holds S R k i) j ≡ any_below (λ k. in_column price g k j && in_column price g k (i - 1)) j =
+          any_same _ _ j (λ k l. ap₂ (λ x y. x && y) (held k (j + 1) (omega arith) (omega arith) (omega (arith, h.1)) ∙ ap (in_column price g k) j_is) (held k i (omega arith) (omega (arith, h.1)) (omega arith))) in
+          grind (
+            arith,
+            here,
+            held j i (omega arith) h.1 (omega arith),
+            on,
+            below,
+            ap (λ x. g.linked (picked price g x) (picked price g (i - 1))) j_is,
+            linked_after price g j (picked price g j) (picked price g (i - 1)),
+          ))
     ]
 
 -- the number of places

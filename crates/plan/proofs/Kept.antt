@@ -1,8 +1,10 @@
 -- Every plan keeps the rules of the layout, by its own invariant.
 use Rattle.std.proofs.Common.{◌≡◌, ◌+◌, length, vec_items, vec_len, sym, ap, ◌∙◌, subst, arith}
+use Rattle.plan.specs.declared.columns.Column.{Column}
 use Rattle.plan.specs.declared.plans.Plan.{Plan}
 use Rattle.plan.specs.Layout.{Undoes, Starts, Diagonals, Rises, Within, Closed}
 use Rattle.plan.specs.Planned.{Keeps}
+use Rattle.plan.specs.Positions.{Position}
 use Rattle.plan.specs.Views.{arrays_of}
 
 pub keeps : (p : Plan) → Keeps (arrays_of p)
@@ -27,3 +29,7 @@ keeps p =
       within = subst (λ n. Within n R) e p.within;
       closed = subst (λ n. Closed n S R (vec_items p.links)) e p.closed;
     }
+
+-- a column stands at a position of its plan
+pub position : (c : Column) → Position (arrays_of c.plan.now) c.position
+position c = record { keeps = keeps c.plan.now; low = c.low; high = c.high }

@@ -1,12 +1,14 @@
 pub mod Assembled
 pub mod Counts
 pub mod Finished
+pub mod Gathered
 pub mod Joins
 pub mod Kept
 pub mod Labels
 pub mod Lays
 pub mod Links
 pub mod Made
+pub mod Members
 pub mod Picks
 pub mod Runs
 pub mod Scans
@@ -16,3 +18,4 @@ pub mod Starts
 pub mod Steps
 pub mod Subjects
 pub mod Turns
+pub mod Walks

@@ -1,42 +1,23 @@
--- What the scan of the node records picks: a node that is left, and the one that the definition picks.
-use Rattle.std.proofs.Common.{◌≡◌, ℕ, suc, ◌+◌, ◌-◌, ◌<◌, ◌≤◌, Bool, true, false, cond, eqb, List, [], ◌∷◌, length, Some, Option, sym, refl, ap, ◌∙◌, subst, inl, inr, arith}
-use Rattle.std.proofs.lemmas.Bool.{cases_Bool, eqb-true, not-true}
+-- What the scan of the labels picks: a node that is left, and the one that the definition picks.
+use Rattle.std.proofs.Common.{◌≡◌, ℕ, zero, suc, ◌+◌, ◌-◌, ◌<◌, ◌≤◌, Bool, false, List, [], ◌∷◌, length, get_or, sym, refl, ap, ◌∙◌, subst, ap₂, arith}
+use Rattle.std.specs.List.{remove, IsFirstBest}
+use Rattle.std.proofs.lemmas.Bool.{not-true}
+use Rattle.std.proofs.lemmas.Bool.Decides.{nat_tests}
 use Rattle.graph.specs.Columns.{member}
 use Rattle.graph.specs.Graphs.{start, degree}
-use Rattle.graph.specs.Picking.{Price, least, first_of, remaining, picked}
-use Rattle.graph.proofs.Orders.{one_if, occurs, lengths, member_from, least_among}
+use Rattle.graph.specs.Picking.{Price, first_of, remaining, picked}
+use Rattle.graph.proofs.Orders.{occurs, without, lengths, member_from, picked_among}
 use Rattle.plan.specs.declared.records.NodeRecord.{NodeRecord}
-use Rattle.plan.specs.Scan.{next_of}
+use Rattle.plan.specs.Scan.{price_in, cheaper}
 use Rattle.plan.specs.Stages.{Stands}
-use Rattle.plan.specs.Tables.{gone_in, degree_in, labels}
+use Rattle.plan.specs.Tables.{Grid, gone_in, labels}
 use Rattle.plan.proofs.Labels.{member_labels}
-use Rattle.plan.proofs.Scans.{Agrees, scan_first, first_in}
-
-agrees_from : (price : ℕ → ℕ → ℕ) (p : ℕ → ℕ) (s : ℕ) (rs : List NodeRecord)
-    → ((i : ℕ) → i < length rs → gone_in rs i ≡ false → price (s + i) (degree_in rs i) ≡ p (s + i)) → Agrees price p s rs
-agrees_from price p s [] h = tt
-agrees_from price p s (r ∷ rs) h =
-    let q : s + 0 ≡ s = omega arith in (
-      (λ g. ap (λ x. price x r.degree) (sym q) ∙ h 0 (omega arith) g ∙ ap p q),
-      agrees_from price p (s + 1) rs (λ i l g.
-          let q : s + suc i ≡ s + 1 + i = omega arith in
-          ap (λ x. price x (degree_in rs i)) (sym q) ∙ h (suc i) (omega arith) g ∙ ap p q),
-    )
+use Rattle.plan.proofs.Scans.{first_is, first_same}
+use Rattle.plan.proofs.Spent.{without_none}
 
 labels_within : (v s : ℕ) (rs : List NodeRecord) → 0 < occurs v (labels s rs) → (s ≤ v) × (v < s + length rs)
 labels_within v s [] o = absurd (omega (arith, o))
-labels_within v s (r ∷ rs) o = at (λ q. labels_within v (s + 1) rs q) r.gone o where
-  at : (0 < occurs v (labels (s + 1) rs) → (s + 1 ≤ v) × (v < s + 1 + length rs)) → (t : Bool) → 0 < occurs v (cond t (labels (s + 1) rs) (s ∷ labels (s + 1) rs)) → (s ≤ v) × (v < s + suc (length rs))
-  at h true o = let f = h o in (omega arith, omega arith)
-  at h false o =
-      elim (cases_Bool (eqb s v)) [
-        | inl e ↦ (let q = eqb-true s v e in (omega arith, omega arith))
-        | inr e ↦ (let f = h (omega (arith, ap one_if e)) in (omega arith, omega arith))
-      ]
-
-first_among_some : (p : ℕ → ℕ) (ls : List ℕ) (v : ℕ) → first_in p ls ≡ Some v → 0 < occurs v ls
-first_among_some p [] v e = absurd (let z : ◌≡◌ {A = ℕ} 0 1 = cc in omega arith)
-first_among_some p (x ∷ xs) v e = let q : least p x xs ≡ v = cc in subst (λ y. 0 < occurs y (x ∷ xs)) q (least_among p x xs)
+labels_within v s (r ∷ rs) o = grind (arith, nat_tests, o, labels_within v (s + 1) rs)
 
 -- the label of a node that is left
 pub record Live (rs : List NodeRecord) (v : ℕ) : Type 0 where
@@ -44,39 +25,61 @@ pub record Live (rs : List NodeRecord) (v : ℕ) : Type 0 where
   pub high : v ≤ length rs
   pub live : gone_in rs (v - 1) ≡ false
 
-next_live : (price : ℕ → ℕ → ℕ) (rs : List NodeRecord) (v : ℕ) → next_of price rs ≡ Some v → Live rs v
-next_live price rs v e =
-    let p : ℕ → ℕ = λ w. price w (degree_in rs (w - 1)) in
-    let f : next_of price rs ≡ first_in p (labels 1 rs) =
-    scan_first price p 1 rs (agrees_from price p 1 rs (λ i h g. let q : i ≡ 1 + i - 1 = omega arith in ap (λ x. price (1 + i) (degree_in rs x)) q)) in
-    let o : 0 < occurs v (labels 1 rs) = first_among_some p (labels 1 rs) v (sym f ∙ e) in
+live_in : (rs : List NodeRecord) (v : ℕ) → 0 < occurs v (labels 1 rs) → Live rs v
+live_in rs v o =
     let w = labels_within v 1 rs o in
-    let q : 1 + (v - 1) ≡ v = omega arith in
+    let q : 1 + (v - 1) ≡ v = omega (arith, w.0) in
     record {
-      low = omega arith;
-      high = omega arith;
-      live = not-true (gone_in rs (v - 1)) (sym (member_labels 1 rs (v - 1) (omega arith)) ∙ ap (λ x. member x (labels 1 rs)) q ∙ member_from v (labels 1 rs) o);
+      low = omega (arith, w.0);
+      high = omega (arith, w.1);
+      live = not-true (gone_in rs (v - 1)) (sym (member_labels 1 rs (v - 1) (omega (arith, w.0, w.1))) ∙ ap (λ x. member x (labels 1 rs)) q ∙ member_from v (labels 1 rs) o);
     }
 
--- what a call of `next` on the records answered
-pub picks_live : (price : ℕ → ℕ → ℕ) (rs seen : List NodeRecord) (r : Option ℕ) (v : ℕ) → seen ≡ rs → r ≡ next_of price seen → r ≡ Some v → Live rs v
-picks_live price rs seen r v e f h = next_live price rs v (ap (next_of price) (sym e) ∙ sym f ∙ h)
+-- the element at an index is among the elements
+occurs_at : (ls : List ℕ) (i : ℕ) → i < length ls → 0 < occurs (get_or ls i 0) ls
+occurs_at [] i h = absurd (omega (arith, h))
+occurs_at (x ∷ xs) zero h = grind (arith, nat_tests)
+occurs_at (x ∷ xs) (suc i) h = omega (arith, occurs_at xs i (omega arith))
 
-first_some : (p : ℕ → ℕ) (ls : List ℕ) → 0 < length ls → first_in p ls ≡ Some (first_of p ls)
-first_some p [] h = absurd (omega (arith, h))
-first_some p (x ∷ xs) h = refl
+-- an element that occurs once is removed at its index
+removed_once : (ls : List ℕ) (i v : ℕ) → i < length ls → get_or ls i 0 ≡ v → occurs v ls ≡ 1 → remove ls i ≡ without v ls
+removed_once [] i v h e o = absurd (omega (arith, h))
+removed_once (x ∷ xs) zero v h e o = grind (arith, nat_tests, e, o, without_none v xs)
+removed_once (x ∷ xs) (suc i) v h e o = grind (arith, nat_tests, e, o, occurs_at xs i (omega arith), removed_once xs i v (omega arith) e)
 
-module _ (price : Price) (n : ℕ) (linked : ℕ → ℕ → Bool) (k : ℕ) (nodes seen : List NodeRecord) (cells : List Bool) (order : List ℕ) (places : ℕ) (r : Option ℕ)
-    (len : length nodes ≡ n) (more : k < n) (same : seen ≡ nodes) (answer : r ≡ next_of price seen) (stands : Stands price n linked k nodes cells order places) where
-  pub picks : r ≡ Some (picked price (start n linked) k)
-  picks =
-      let g = remaining price (start n linked) k in
-      let p : ℕ → ℕ = λ v. price v (degree g v) in
-      answer ∙ ap (next_of price) same
-      ∙ scan_first price p 1 nodes (agrees_from price p 1 nodes (λ i h f. let q : i + 1 ≡ 1 + i = omega arith in
-      ap (λ x. price (1 + i) x) (stands.degrees i (omega arith) f) ∙ ap (λ x. price (1 + i) (degree g x)) q))
-      ∙ ap (first_in p) stands.left
-      ∙ first_some p g.left (omega (arith, lengths price n linked k (omega arith)))
+module _ (price : Price) (n : ℕ) (linked : ℕ → ℕ → Bool) (k : ℕ) (nodes seen : List NodeRecord) (held : Grid) (listed shown order : List ℕ) (places : ℕ)
+    (len : length nodes ≡ n) (more : k < n) (same : seen ≡ nodes) (shows : shown ≡ listed)
+    (stands : Stands price n linked k nodes held listed order places) where
+  -- the labels that are left are those of the nodes that are not gone
+  live_listed : (v : ℕ) → 0 < occurs v listed → Live nodes v
+  live_listed v o = live_in nodes v (subst (λ ls. 0 < occurs v ls) (stands.lists ∙ sym stands.left) o)
 
-  pub picks_as : (v : ℕ) → r ≡ Some v → v ≡ picked price (start n linked) k
-  picks_as v h = let q : Some v ≡ Some (picked price (start n linked) k) = sym h ∙ picks in cc
+  prices : (v : ℕ) → 0 < occurs v listed → price_in price nodes v ≡ price v (degree (remaining price (start n linked) k) v)
+  prices v o =
+      let l = live_listed v o in
+      grind (arith, l.low, stands.degrees (v - 1) (omega (arith, l.low, l.high, len)) l.live)
+
+  pick_is : first_of (price_in price nodes) listed ≡ picked price (start n linked) k
+  pick_is =
+      first_same (price_in price nodes) (λ v. price v (degree (remaining price (start n linked) k) v)) listed prices
+      ∙ ap (first_of (λ v. price v (degree (remaining price (start n linked) k) v))) stands.lists
+
+  -- the label at the index that was found goes next, and leaves the others
+  pub record Picked (i : ℕ) : Type 0 where
+    pub label_is : get_or listed i 0 ≡ picked price (start n linked) k
+    pub live : Live nodes (get_or listed i 0)
+    pub drops : remove listed i ≡ without (get_or listed i 0) listed
+
+  pub picks : (i : ℕ) → IsFirstBest (cheaper price seen) shown (length shown) i → Picked i
+  picks i best =
+      let f : IsFirstBest (cheaper price nodes) listed (length listed) i =
+      subst (λ rs. IsFirstBest (cheaper price rs) listed (length listed) i) same (subst (λ ls. IsFirstBest (cheaper price seen) ls (length ls) i) shows best) in
+      let is = first_is (price_in price nodes) listed i f ∙ pick_is in
+      record {
+        label_is = is;
+        live = live_listed (get_or listed i 0) (occurs_at listed i f.0);
+        drops = removed_once listed i (get_or listed i 0) f.0 refl (ap₂ (λ v ls. occurs v ls) is stands.lists ∙ picked_among price n linked k more);
+      }
+
+  pub picks_some : length shown ≡ 0 → ⊥
+  picks_some e = omega (arith, e, ap (λ ls. length ls) shows, ap (λ ls. length ls) stands.lists, lengths price n linked k (omega arith), more)

@@ -3,6 +3,7 @@ use Rattle.std.proofs.Common.{◌≡◌, ℕ, ◌+◌, ◌-◌, ◌<◌, ◌≤�
 use Rattle.graph.specs.Graphs.{start}
 use Rattle.graph.specs.Picking.{Price}
 use Rattle.graph.specs.Theorems.{TwoWay}
+use Rattle.nodeset.specs.Rows.{linked_in as adjacent}
 use Rattle.plan.specs.declared.planner.Planner.{Planner}
 use Rattle.plan.specs.Planned.{place_count}
 use Rattle.plan.specs.Shown.{Shows, Advances}
@@ -29,7 +30,7 @@ few_enough price n linked k p e f few s =
 
 -- what a run shows at its end, by the number of nodes
 pub record Ended (price : Price) (n : ℕ) (linked : ℕ → ℕ → Bool) (p : Planner) : Type 0 where
-  pub stands : Stands price n linked n (vec_items p.nodes) (vec_items p.cells) (vec_items p.order) p.places
+  pub stands : Stands price n linked n (vec_items p.nodes) (adjacent p.rows) (vec_items p.left) (vec_items p.order) p.places
   pub few : place_count price n linked ≤ 8192
 
 pub ended : (price : Price) (n : ℕ) (linked : ℕ → ℕ → Bool) (p q : Planner) → p.n ≡ n → q.n ≡ p.n
@@ -37,6 +38,6 @@ pub ended : (price : Price) (n : ℕ) (linked : ℕ → ℕ → Bool) (p q : Pla
 ended price n linked p q e f run s =
     let r = run s in
     record {
-      stands = subst (λ x. Stands price x linked x (vec_items q.nodes) (vec_items q.cells) (vec_items q.order) q.places) (f ∙ e) r.0;
+      stands = subst (λ x. Stands price x linked x (vec_items q.nodes) (adjacent q.rows) (vec_items q.left) (vec_items q.order) q.places) (f ∙ e) r.0;
       few = subst (λ x. place_count price x linked ≤ 8192) e r.1;
     }

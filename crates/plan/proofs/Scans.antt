@@ -1,84 +1,86 @@
--- The scan of the node records picks what the definition picks.
-use Rattle.std.proofs.Common.{◌≡◌, ℕ, ◌+◌, ◌<◌, ◌≤◌, Bool, true, false, cond, ltb, List, [], ◌∷◌, length, get_or, drop, Some, None, Option, sym, refl, ap, ◌∙◌}
-use Rattle.std.proofs.lemmas.List.{at_drop_more, at_drop_all}
-use Rattle.std.proofs.lemmas.Bool.{lt-ltb, le-ltb}
-use Rattle.plan.specs.declared.records.NodeRecord.{NodeRecord}
-use Rattle.plan.specs.Scan.{scan, better, label_of, next_of}
-use Rattle.plan.specs.Tables.{labels}
-use Rattle.graph.specs.Picking.{least}
+-- The two passes over the labels that are left find the label that the definition picks.
+use Rattle.std.proofs.Common.{◌≡◌, ℕ, zero, suc, ◌<◌, ◌≤◌, min, Bool, cond, eqb, ltb, ◌⊎◌, List, [], ◌∷◌, length, get_or, map, Some, None, Option, sym, refl, ap, ◌∙◌, subst, inl, inr, arith}
+use Rattle.std.specs.List.{IsFirstBest, position, position_or_len, fold, best_of}
+use Rattle.std.specs.Option.{MatchOption}
+use Rattle.std.proofs.lemmas.Bool.{cases_lt, true≢false, eqb-true, eqb-false, eq-eqb, lt-ltb, le-ltb}
+use Rattle.std.proofs.lemmas.Bool.Decides.{nat_tests}
+use Rattle.std.proofs.lemmas.List.{get_or_default}
+use Rattle.std.proofs.lemmas.List.Sums.{fails_before_first, passes_at_first}
+use Rattle.std.proofs.lemmas.List.MinMax.{IsStrictWeakOrder-by_number, IsFirstBest-unique, IsFirstBest-from_best_of}
+use Rattle.graph.specs.Picking.{least, first_of}
+use Rattle.graph.proofs.Orders.{occurs}
 
--- the records' prices are p
-abbrev pub Agrees : (ℕ → ℕ → ℕ) → (ℕ → ℕ) → ℕ → List NodeRecord → Type 0
-Agrees price p v [] = Unit {0}
-Agrees price p v (r ∷ rs) = (r.gone ≡ false → price v r.degree ≡ p v) × Agrees price p (v + 1) rs
+-- ---- the first label of least price
 
--- one turn of the scan
-pub scan_more : (price : ℕ → ℕ → ℕ) (start best new : Option (ℕ × ℕ)) (i : ℕ) (rs : List NodeRecord) (node : NodeRecord)
-    → scan price best (i + 1) (drop i rs) ≡ start → i < length rs → node ≡ get_or rs i node
-    → new ≡ cond node.gone best (better best (i + 1) (price (i + 1) node.degree))
-    → scan price new (i + 1 + 1) (drop (i + 1) rs) ≡ start
-scan_more price start best new i rs node inv h e n =
-    ap (λ b. scan price b (i + 1 + 1) (drop (i + 1) rs)) n
-    ∙ ap (λ (r : NodeRecord). scan price (cond r.gone best (better best (i + 1) (price (i + 1) r.degree))) (i + 1 + 1) (drop (i + 1) rs)) e
-    ∙ sym (at_drop_more (scan price best (i + 1)) rs i node h) ∙ inv
+-- the least of m and the prices of labels
+abbrev lowest : (ℕ → ℕ) → ℕ → List ℕ → ℕ
+lowest p m xs = fold min m (map p xs)
 
-pub keeps : (gone : Bool) (best b : Option (ℕ × ℕ)) → gone ≡ true → best ≡ cond gone best b
-keeps gone best b e = sym (ap (λ t. cond t best b) e)
+lowest_below : (p : ℕ → ℕ) (m : ℕ) (xs : List ℕ) → lowest p m xs ≤ m
+lowest_below p m [] = omega arith
+lowest_below p m (x ∷ xs) = omega (arith, lowest_below p (min m (p x)) xs)
 
-pub takes_first : (gone : Bool) (best : Option (ℕ × ℕ)) (v p : ℕ) → gone ≡ false → best ≡ None → Some (v, p) ≡ cond gone best (better best v p)
-takes_first gone best v p e n = sym (ap (λ t. cond t best (better best v p)) e ∙ ap (λ t. better t v p) n)
+lowest_each : (p : ℕ → ℕ) (m : ℕ) (xs : List ℕ) (k d : ℕ) → k < length xs → lowest p m xs ≤ p (get_or xs k d)
+lowest_each p m [] k d h = absurd (omega (arith, h))
+lowest_each p m (x ∷ xs) zero d h = omega (arith, lowest_below p (min m (p x)) xs)
+lowest_each p m (x ∷ xs) (suc k) d h = lowest_each p (min m (p x)) xs k d (omega arith)
 
-pub takes : (gone : Bool) (best : Option (ℕ × ℕ)) (b : ℕ × ℕ) (v p : ℕ) → gone ≡ false → best ≡ Some b → p < b.1 → Some (v, p) ≡ cond gone best (better best v p)
-takes gone best b v p e n l =
-    sym (ap (λ t. cond t best (better best v p)) e ∙ ap (λ t. better t v p) n ∙ ap (λ t. cond t (Some (v, p)) (Some b)) (lt-ltb p b.1 l))
+-- it is m, or the price of one of them
+lowest_met : (p : ℕ → ℕ) (m : ℕ) (xs : List ℕ) → (lowest p m xs ≡ m) ⊎ ((k : ℕ) × (k < length xs) × (p (get_or xs k 0) ≡ lowest p m xs))
+lowest_met p m [] = inl refl
+lowest_met p m (x ∷ xs) =
+    elim (lowest_met p (min m (p x)) xs) [
+      | inl e ↦ elim (cases_lt (p x) m) [ inl l ↦ inr (0, omega arith, omega (arith, e, l)) | inr l ↦ inl (omega (arith, e, l)) ]
+      | inr f ↦ inr (suc f.0, omega (arith, f.1), f.2)
+    ]
 
-pub stays : (gone : Bool) (best : Option (ℕ × ℕ)) (b : ℕ × ℕ) (v p : ℕ) → gone ≡ false → best ≡ Some b → b.1 ≤ p → Some b ≡ cond gone best (better best v p)
-stays gone best b v p e n l =
-    sym (ap (λ t. cond t best (better best v p)) e ∙ ap (λ t. better t v p) n ∙ ap (λ t. cond t (Some (v, p)) (Some b)) (le-ltb p b.1 l))
+-- the first label whose price is the least of all
+first_at : (p : ℕ → ℕ) (ls : List ℕ) (m k : ℕ) (o : Option ℕ) → k < length ls → p (get_or ls k 0) ≡ m → ((j d : ℕ) → j < length ls → m ≤ p (get_or ls j d))
+    → o ≡ position (λ v. eqb (p v) m) ls → MatchOption o (length ls ≡ 0) (λ i. IsFirstBest (λ v w. ltb (p v) (p w)) ls (length ls) i)
+first_at p ls m k o h met each f =
+    let test : ℕ → Bool = λ v. eqb (p v) m in
+    let i = position_or_len test ls in
+    let within : i < length ls = elim (cases_lt i (length ls)) [
+      | inl l ↦ l
+      | inr l ↦ absurd (true≢false (sym (eq-eqb (p (get_or ls k 0)) m met) ∙ fails_before_first test ls k 0 (omega arith)))
+    ] in
+    let here : (d : ℕ) → p (get_or ls i d) ≡ m = λ d. eqb-true (p (get_or ls i d)) m (passes_at_first test ls d within) in
+    let found : o ≡ Some i = f ∙ ap (λ t. cond t (Some i) None) (lt-ltb i (length ls) within) in
+    subst (λ r. MatchOption r (length ls ≡ 0) (λ i. IsFirstBest (λ v w. ltb (p v) (p w)) ls (length ls) i)) (sym found) (
+      within,
+      λ j d l. le-ltb (p (get_or ls j d)) (p (get_or ls i d)) (omega (arith, each j d l, here d)),
+      λ j d l. lt-ltb (p (get_or ls i d)) (p (get_or ls j d)) (omega (arith, each j d (omega arith), here d, eqb-false (p (get_or ls j d)) m (fails_before_first test ls j d l))),
+    )
 
-pub scan_all : (price : ℕ → ℕ → ℕ) (best : Option (ℕ × ℕ)) (i : ℕ) (rs : List NodeRecord)
-    → scan price best (i + 1) (drop i rs) ≡ scan price None 1 rs → length rs ≤ i → label_of best ≡ next_of price rs
-scan_all price best i rs inv h = ap label_of (sym (at_drop_all (scan price best (i + 1)) rs i h) ∙ inv)
+pub first_least : (p : ℕ → ℕ) (ls : List ℕ) (x m : ℕ) (o : Option ℕ) → 0 < length ls → x ≡ p (get_or ls 0 0) → m ≡ fold min x (map p ls) → o ≡ position (λ v. eqb (p v) m) ls
+    → MatchOption o (length ls ≡ 0) (λ i. IsFirstBest (λ v w. ltb (p v) (p w)) ls (length ls) i)
+first_least p ls x m o h first is f =
+    let each : (j d : ℕ) → j < length ls → m ≤ p (get_or ls j d) = λ j d l. omega (arith, is, lowest_each p x ls j d l) in
+    elim (lowest_met p x ls) [
+      | inl q ↦ first_at p ls m 0 o h (omega (arith, is, q, first)) each f
+      | inr q ↦ first_at p ls m q.0 o q.1 (q.2 ∙ sym is) each f
+    ]
 
-abbrev pub picked : (ℕ → ℕ) → ℕ → List ℕ → Option (ℕ × ℕ)
-picked p b ls = Some (least p b ls, p (least p b ls))
+-- and it is the one that the definition picks
+best_is : (p : ℕ → ℕ) (b : ℕ) (xs : List ℕ) → best_of (λ v w. ltb (p v) (p w)) b xs ≡ least p b xs
+best_is p b [] = refl
+best_is p b (x ∷ xs) = best_is p (cond (ltb (p x) (p b)) x b) xs
 
-scan_choice : (price : ℕ → ℕ → ℕ) (p : ℕ → ℕ) (b v : ℕ) (rs : List NodeRecord) (ls : List ℕ)
-    → ((c : ℕ) → scan price (Some (c, p c)) (v + 1) rs ≡ picked p c ls)
-    → (t : Bool) → scan price (cond t (Some (v, p v)) (Some (b, p b))) (v + 1) rs ≡ picked p (cond t v b) ls
-scan_choice price p b v rs ls h true = h v
-scan_choice price p b v rs ls h false = h b
+pub first_is : (p : ℕ → ℕ) (ls : List ℕ) (i : ℕ) → IsFirstBest (λ v w. ltb (p v) (p w)) ls (length ls) i → get_or ls i 0 ≡ first_of p ls
+first_is p [] i f = absurd (omega (arith, f.0))
+first_is p (x ∷ xs) i f =
+    let b = IsFirstBest-from_best_of (IsStrictWeakOrder-by_number p) x xs in
+    get_or_default (x ∷ xs) i 0 x f.0 ∙ ap (λ j. get_or (x ∷ xs) j x) (IsFirstBest-unique (IsStrictWeakOrder-by_number p) (x ∷ xs) (length (x ∷ xs)) i b.0 0 f b.1) ∙ b.2 ∙ best_is p x xs
 
-scan_step : (price : ℕ → ℕ → ℕ) (p : ℕ → ℕ) (b v q : ℕ) (rs : List NodeRecord) (ls : List ℕ)
-    → ((c : ℕ) → scan price (Some (c, p c)) (v + 1) rs ≡ picked p c ls)
-    → (gone : Bool) → (gone ≡ false → q ≡ p v)
-    → scan price (cond gone (Some (b, p b)) (better (Some (b, p b)) v q)) (v + 1) rs ≡ picked p b (cond gone ls (v ∷ ls))
-scan_step price p b v q rs ls h true e = h b
-scan_step price p b v q rs ls h false e =
-    ap (λ x. scan price (better (Some (b, p b)) v x) (v + 1) rs) (e refl) ∙ scan_choice price p b v rs ls h (ltb (p v) (p b))
+-- ---- prices that agree on the labels pick the same
 
--- the scan from a first find on is the spec's pick
-pub scan_least : (price : ℕ → ℕ → ℕ) (p : ℕ → ℕ) (b v : ℕ) (rs : List NodeRecord) → Agrees price p v rs
-    → scan price (Some (b, p b)) v rs ≡ picked p b (labels v rs)
-scan_least price p b v [] h = refl
-scan_least price p b v (r ∷ rs) h =
-    scan_step price p b v (price v r.degree) rs (labels (v + 1) rs) (λ c. scan_least price p c (v + 1) rs h.1) r.gone h.0
+least_same : (p q : ℕ → ℕ) (b : ℕ) (xs : List ℕ) → ((v : ℕ) → 0 < occurs v (b ∷ xs) → p v ≡ q v) → least p b xs ≡ least q b xs
+least_same p q b [] same = refl
+least_same p q b (y ∷ ys) same =
+    let of-y = least_same p q y ys (λ v o. same v (omega (arith, o))) in
+    let of-b = least_same p q b ys (λ v o. same v (omega (arith, o))) in
+    grind (arith, nat_tests, same b, same y, of-y, of-b)
 
-abbrev pub first_in : (ℕ → ℕ) → List ℕ → Option ℕ
-first_in p [] = None
-first_in p (x ∷ xs) = Some (least p x xs)
-
-first_step : (price : ℕ → ℕ → ℕ) (p : ℕ → ℕ) (v q : ℕ) (rs : List NodeRecord) (ls : List ℕ)
-    → ((c : ℕ) → scan price (Some (c, p c)) (v + 1) rs ≡ picked p c ls)
-    → label_of (scan price None (v + 1) rs) ≡ first_in p ls
-    → (gone : Bool) → (gone ≡ false → q ≡ p v)
-    → label_of (scan price (cond gone None (better None v q)) (v + 1) rs) ≡ first_in p (cond gone ls (v ∷ ls))
-first_step price p v q rs ls h i true e = i
-first_step price p v q rs ls h i false e =
-    ap (λ x. label_of (scan price (Some (v, x)) (v + 1) rs)) (e refl) ∙ ap label_of (h v)
-
-pub scan_first : (price : ℕ → ℕ → ℕ) (p : ℕ → ℕ) (v : ℕ) (rs : List NodeRecord) → Agrees price p v rs
-    → label_of (scan price None v rs) ≡ first_in p (labels v rs)
-scan_first price p v [] h = refl
-scan_first price p v (r ∷ rs) h =
-    first_step price p v (price v r.degree) rs (labels (v + 1) rs) (λ c. scan_least price p c (v + 1) rs h.1) (scan_first price p (v + 1) rs h.1) r.gone h.0
+pub first_same : (p q : ℕ → ℕ) (ls : List ℕ) → ((v : ℕ) → 0 < occurs v ls → p v ≡ q v) → first_of p ls ≡ first_of q ls
+first_same p q [] same = refl
+first_same p q (x ∷ xs) same = least_same p q x xs same

@@ -1,96 +1,92 @@
 -- Where a column of a plan stands, and what its rows are.
-use Rattle.std.proofs.Common.{◌≡◌, ℕ, zero, suc, ◌+◌, ◌-◌, ◌<◌, ◌≤◌, cond, List, [], ◌∷◌, length, get_or, Some, None, Ok, Err, vec_items, vec_len, Result, refl, ap, ◌∙◌, inl, inr, arith, MatchResult}
-use Rattle.std.specs.List.{between}
+use Rattle.std.proofs.Common.{◌≡◌, ℕ, zero, suc, ◌+◌, ◌-◌, ◌<◌, ◌≤◌, List, [], ◌∷◌, length, get_or, Some, None, Ok, Err, Result, refl, ap, inl, inr, arith, MatchResult}
 use Rattle.std.proofs.lemmas.List.Edits.{length-between, get_or-between}
-use Rattle.std.proofs.lemmas.List.{get_or_read_under}
 use Rattle.std.specs.List.Sorted.{IsBinarySearchResult}
 use Rattle.std.proofs.lemmas.List.Sorted.{searched}
-use Rattle.std.proofs.lemmas.Bool.{cases_lt, eq-eqb, ne_eqb}
-use Rattle.plan.specs.declared.plans.Plan.{Plan}
-use Rattle.plan.specs.Lookups.{index_from}
+use Rattle.std.proofs.lemmas.Bool.{cases_lt}
+use Rattle.std.proofs.lemmas.Bool.Decides.{nat_tests}
+use Rattle.plan.specs.Lookups.{size_in, start_in, rows_in, index_from}
+use Rattle.plan.specs.Planned.{Arrays, Keeps}
+use Rattle.plan.specs.Positions.{Position}
 use Rattle.std.specs.Ordering.{nat_cmp}
 
 -- the starts rise: m columns on, by at least m
 pub starts_rise : (n : ℕ) (starts : List ℕ) → ((k : ℕ) → k < n → get_or starts k 0 < get_or starts (k + 1) 0) → (k m : ℕ) → k + m ≤ n → get_or starts k 0 + m ≤ get_or starts (k + m) 0
-starts_rise n starts h k zero l = let e : k ≡ k + 0 = omega arith in omega (arith, ap (λ x. get_or starts x 0) e)
-starts_rise n starts h k (suc m) l =
-    let e : k + m + 1 ≡ k + suc m = omega arith in
-    omega (arith, starts_rise n starts h k m (omega arith), h (k + m) (omega arith), ap (λ x. get_or starts x 0) e)
+starts_rise n starts h k zero l = grind arith
+starts_rise n starts h k (suc m) l = grind (arith, starts_rise n starts h k m (omega arith), h (k + m) (omega arith))
 
--- column k stands from place `first` up to place `past`
-pub record Span (p : Plan) (k first past : ℕ) : Type 0 where
-  pub some : first < past
-  pub inside : past ≤ vec_len p.rows
-  pub first_is : first ≡ get_or (vec_items p.starts) (k - 1) 0
-  pub past_is : past ≡ get_or (vec_items p.starts) k 0
+pub starts_ascend : (a : Arrays) → Keeps a → (j k : ℕ) → 0 < j → j ≤ k → k ≤ size_in a + 1 → start_in a j ≤ start_in a k
+starts_ascend a keeps j k l h u =
+    grind (arith, starts_rise (size_in a) a.starts keeps.starting.2 (j - 1) (k - j) (omega arith))
 
-pub span_read : (p : Plan) (k a b : ℕ) → 0 < k → k ≤ vec_len p.order → a ≡ get_or (vec_items p.starts) (k - 1) a → b ≡ get_or (vec_items p.starts) k b → Span p k a b
-span_read p k a b l h ea eb =
-    let S = vec_items p.starts in
-    let n = vec_len p.order in
-    let a_is : a ≡ get_or S (k - 1) 0 = get_or_read_under S (k - 1) (vec_len p.starts) a 0 ea (omega (arith, p.sizes.1)) p.starts.ok.0 in
-    let b_is : b ≡ get_or S k 0 = get_or_read_under S k (vec_len p.starts) b 0 eb (omega (arith, p.sizes.1)) p.starts.ok.0 in
-    let k_is : k - 1 + 1 ≡ k = omega arith in
-    let n_is : k + (n - k) ≡ n = omega arith in
-    record {
-      some = omega (arith, a_is, b_is, p.starting.2 (k - 1) (omega arith), ap (λ x. get_or S x 0) k_is);
-      inside = omega (arith, b_is, starts_rise n S p.starting.2 k (n - k) (omega arith), ap (λ x. get_or S x 0) n_is, p.starting.1, p.rows.ok.0);
-      first_is = a_is;
-      past_is = b_is;
-    }
+-- the row at a place
+abbrev pub row_at : Arrays → ℕ → ℕ
+row_at a q = get_or a.rows q 0
 
-module _ (p : Plan) (k a b : ℕ) (low : 0 < k) (high : k ≤ vec_len p.order) (span : Span p k a b) where
-  abbrev R : List ℕ
-  R = vec_items p.rows
+module _ (a : Arrays) (k : ℕ) (p : Position a k) where
+  pub column_some : start_in a k < start_in a (k + 1)
+  column_some = grind (arith, p.low, p.keeps.starting.2 (k - 1) (omega (arith, p.low, p.high)))
 
-  -- the rows of the column rise, from its diagonal on
-  step : (q : ℕ) → a ≤ q → q + 1 < b → get_or R q 0 < get_or R (q + 1) 0
-  step q l h =
-      let k_is : k - 1 + 1 ≡ k = omega arith in
-      p.rising (k - 1) q (omega arith) (omega (arith, span.first_is), omega (arith, span.past_is, ap (λ x. get_or (vec_items p.starts) x 0) k_is))
+  pub column_ends : start_in a (k + 1) ≤ length a.rows
+  column_ends = grind (arith, starts_ascend a p.keeps (k + 1) (size_in a + 1) (omega arith) (omega (arith, p.high)) (omega arith), p.keeps.starting.1)
 
-  rising_by : (q m : ℕ) → a ≤ q → q + m < b → get_or R q 0 + m ≤ get_or R (q + m) 0
-  rising_by q zero l h = let e : q ≡ q + 0 = omega arith in omega (arith, ap (λ x. get_or R x 0) e)
+  pub head : row_at a (start_in a k) ≡ k
+  head = omega (arith, p.keeps.headed (k - 1) (omega (arith, p.low, p.high)), p.low)
+
+  rising_by : (q m : ℕ) → start_in a k ≤ q → q + m < start_in a (k + 1) → row_at a q + m ≤ row_at a (q + m)
+  rising_by q zero l h = grind arith
   rising_by q (suc m) l h =
-      let e : q + m + 1 ≡ q + suc m = omega arith in
-      omega (arith, rising_by q m l (omega arith), step (q + m) (omega arith) (omega arith), ap (λ x. get_or R x 0) e)
+      let more : q + m + 1 < get_or a.starts (k - 1 + 1) 0 = grind (arith, p.low, h) in
+      grind (arith, rising_by q m l (omega arith), p.keeps.rising (k - 1) (q + m) (omega (arith, p.low, p.high)) (omega arith, more))
 
-  pub diagonal : get_or R a 0 ≡ k
-  diagonal = let k_is : k - 1 + 1 ≡ k = omega arith in ap (λ x. get_or R x 0) span.first_is ∙ p.headed (k - 1) (omega arith) ∙ k_is
+  -- the rows of a column ascend
+  pub rising : (q t : ℕ) → start_in a k ≤ q → q < t → t < start_in a (k + 1) → row_at a q < row_at a t
+  rising q t l h u = grind (arith, rising_by q (t - q) l (omega arith))
 
-  pub row_above : (q : ℕ) → a < q → q < b → (k < get_or R q 0) × (get_or R q 0 ≤ vec_len p.order)
-  row_above q l h =
-      let e : a + (q - a) ≡ q = omega arith in
-      (omega (arith, rising_by a (q - a) (omega arith) (omega arith), ap (λ x. get_or R x 0) e, diagonal), p.within q (omega (arith, span.inside, p.rows.ok.0)))
+  -- and past the diagonal they lie beyond it
+  pub row_past : (q : ℕ) → start_in a k < q → q < start_in a (k + 1) → k < row_at a q
+  row_past q l h = omega (arith, rising (start_in a k) q (omega arith) l h, head)
 
-  pub part_length : length (between (a + 1) b R) ≡ b - (a + 1)
-  part_length = length-between R (a + 1) b (omega (arith, span.inside, p.rows.ok.0))
+  pub row_position : (q : ℕ) → start_in a k < q → q < start_in a (k + 1) → Position a (row_at a q)
+  row_position q l h = record {
+    keeps = p.keeps;
+    low = omega (arith, row_past q l h);
+    high = p.keeps.within q (omega (arith, column_ends));
+  }
 
-  pub part_above : (i : ℕ) → i < length (between (a + 1) b R) → (k < get_or (between (a + 1) b R) i 0) × (get_or (between (a + 1) b R) i 0 ≤ vec_len p.order)
-  part_above i h =
-      let more : a + 1 + i < b = omega (arith, part_length) in
-      let e = get_or-between R (a + 1) b i 0 more in
-      let f = row_above (a + 1 + i) (omega arith) more in
-      (omega (arith, f.0, e), omega (arith, f.1, e))
+  -- the rows below the diagonal, as a list
+  pub rows_long : length (rows_in a k) ≡ start_in a (k + 1) - (start_in a k + 1)
+  rows_long = length-between a.rows (start_in a k + 1) (start_in a (k + 1)) column_ends
 
-  pub part_rises : (i j : ℕ) → i < j → j < length (between (a + 1) b R) → get_or (between (a + 1) b R) i 0 < get_or (between (a + 1) b R) j 0
-  part_rises i j l h =
-      let more : a + 1 + j < b = omega (arith, part_length) in
-      let q : a + 1 + i + (j - i) ≡ a + 1 + j = omega arith in
-      omega (arith, get_or-between R (a + 1) b i 0 (omega arith), get_or-between R (a + 1) b j 0 more, rising_by (a + 1 + i) (j - i) (omega arith) (omega arith), ap (λ x. get_or R x 0) q)
+  pub row_there : (i : ℕ) → i < length (rows_in a k) → get_or (rows_in a k) i 0 ≡ row_at a (start_in a k + 1 + i)
+  row_there i h = get_or-between a.rows (start_in a k + 1) (start_in a (k + 1)) i 0 (omega (arith, rows_long))
+
+  pub rows_above : (i : ℕ) → i < length (rows_in a k) → (k < get_or (rows_in a k) i 0) × (get_or (rows_in a k) i 0 ≤ size_in a)
+  rows_above i h =
+      let more : start_in a k + 1 + i < start_in a (k + 1) = omega (arith, rows_long) in (
+        omega (arith, row_past (start_in a k + 1 + i) (omega arith) more, row_there i h),
+        omega (arith, (row_position (start_in a k + 1 + i) (omega arith) more).high, row_there i h),
+      )
+
+  pub rows_rise : (i j : ℕ) → i < j → j < length (rows_in a k) → get_or (rows_in a k) i 0 < get_or (rows_in a k) j 0
+  rows_rise i j l h =
+      omega (
+        arith,
+        rising (start_in a k + 1 + i) (start_in a k + 1 + j) (omega arith) (omega arith) (omega (arith, rows_long)),
+        row_there i (omega arith),
+        row_there j h,
+      )
 
 -- the place of an entry of a list that rises
 pub index_found : (xs : List ℕ) (m i k : ℕ) → ((x y : ℕ) → x < y → y < length xs → get_or xs x 0 < get_or xs y 0) → k < length xs → get_or xs k 0 ≡ i → index_from m xs i ≡ Some (m + k)
 index_found [] m i k rises h e = absurd (omega (arith, h))
-index_found (x ∷ xs) m i zero rises h e = ap (λ t. cond t (Some m) (index_from (m + 1) xs i)) (eq-eqb x i e) ∙ ap (λ n. Some n) (let q : m ≡ m + 0 = omega arith in q)
+index_found (x ∷ xs) m i zero rises h e = grind (arith, nat_tests, e)
 index_found (x ∷ xs) m i (suc k) rises h e =
-    ap (λ t. cond t (Some m) (index_from (m + 1) xs i)) (ne_eqb x i (λ q. omega (arith, rises 0 (suc k) (omega arith) h)))
-    ∙ index_found xs (m + 1) i k (λ a b l u. rises (suc a) (suc b) (omega arith) (omega arith)) (omega arith) e
-    ∙ ap (λ n. Some n) (let q : m + 1 + k ≡ m + suc k = omega arith in q)
+    grind (arith, nat_tests, e, rises 0 (suc k) (omega arith) h, index_found xs (m + 1) i k (λ a b l u. rises (suc a) (suc b) (omega arith) (omega arith)) (omega arith) e)
 
 pub index_none : (xs : List ℕ) (m i : ℕ) → ((k : ℕ) → k < length xs → get_or xs k 0 ≡ i → ⊥) → index_from m xs i ≡ None
 index_none [] m i h = refl
-index_none (x ∷ xs) m i h = ap (λ t. cond t (Some m) (index_from (m + 1) xs i)) (ne_eqb x i (h 0 (omega arith))) ∙ index_none xs (m + 1) i (λ k l. h (suc k) (omega arith))
+index_none (x ∷ xs) m i h = grind (arith, nat_tests, h 0, index_none xs (m + 1) i (λ k l. h (suc k) (omega arith)))
 
 -- what a search of the rows of a column finds
 pub searched_in : (rows : List ℕ) (i first : ℕ) (r : Result ℕ ℕ) → ((x y : ℕ) → x < y → y < length rows → get_or rows x 0 < get_or rows y 0) → IsBinarySearchResult (λ y. nat_cmp y i) rows r

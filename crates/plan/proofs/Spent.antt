@@ -1,45 +1,25 @@
 -- A column is as long as the degree of its node when the node goes, so the places are counted as nodes go.
-use Rattle.std.proofs.Common.{◌≡◌, ℕ, zero, suc, ◌+◌, ◌-◌, ◌<◌, ◌≤◌, Bool, true, false, cond, not, ◌&&◌, eqb, List, [], ◌∷◌, map, length, filter, sym, refl, ap, ◌∙◌, ap₂, inl, inr, arith}
+use Rattle.std.proofs.Common.{◌≡◌, ℕ, zero, suc, ◌+◌, ◌-◌, ◌<◌, ◌≤◌, Bool, cond, not, ◌&&◌, eqb, List, [], ◌∷◌, map, length, filter, sym, refl, ap, ◌∙◌, ap₂, arith}
 use Rattle.std.specs.List.{range_with_len}
 use Rattle.std.proofs.lemmas.List.{nil_from_length}
-use Rattle.std.proofs.lemmas.Bool.{eqb-true, eq-eqb, ne_eqb, cases_Bool, and_left}
+use Rattle.std.proofs.lemmas.Bool.{eq-eqb, ne_eqb, and_left}
+use Rattle.std.proofs.lemmas.Bool.Decides.{nat_tests}
 use Rattle.graph.specs.Columns.{in_column, column, columns, places}
 use Rattle.graph.specs.Graphs.{start, degree}
 use Rattle.graph.specs.Picking.{Price, remaining, picked}
 use Rattle.plan.specs.Stages.{spent}
-use Rattle.graph.proofs.Orders.{one_if, occurs, without, left_at, lengths, picked_among, apart}
+use Rattle.graph.proofs.Orders.{occurs, without, left_at, lengths, picked_among, apart}
 use Rattle.plan.proofs.Steps.{kept_without}
 
-without_none : (v : ℕ) (xs : List ℕ) → occurs v xs ≡ 0 → without v xs ≡ xs
+pub without_none : (v : ℕ) (xs : List ℕ) → occurs v xs ≡ 0 → without v xs ≡ xs
 without_none v [] h = refl
 without_none v (x ∷ xs) h =
-    elim (cases_Bool (eqb x v)) [
-      | inl e ↦ absurd (omega (arith, ap one_if e))
-      | inr e ↦
-          ap (λ t. cond (not t) (x ∷ without v xs) (without v xs)) e
-          ∙ ap (λ (ls : List ℕ). x ∷ ls) (without_none v xs (omega (arith, ap one_if e)))
-    ]
-
-kept_length : (x : ℕ) (rest : List ℕ) (b : Bool) → length (cond b (x ∷ rest) rest) ≡ cond b 1 0 + length rest
-kept_length x rest true = omega arith
-kept_length x rest false = omega arith
+    grind (arith, nat_tests, h, without_none v xs)
 
 -- one label taken out
-kept_out_step : (P : ℕ → Bool) (v x : ℕ) (xs : List ℕ) → occurs v (x ∷ xs) ≡ 1
-    → (occurs v xs ≡ 1 → length (filter P xs) ≡ cond (P v) 1 0 + length (filter P (without v xs)))
-    → (t : Bool) → eqb x v ≡ t
-    → length (filter P (x ∷ xs)) ≡ cond (P v) 1 0 + length (filter P (cond (not t) (x ∷ without v xs) (without v xs)))
-kept_out_step P v x xs h i true e =
-    kept_length x (filter P xs) (P x)
-    ∙ ap₂ (λ t ls. cond t 1 0 + length (filter P ls)) (ap P (eqb-true x v e)) (sym (without_none v xs (omega (arith, ap one_if e))))
-kept_out_step P v x xs h i false e =
-    let a = kept_length x (filter P xs) (P x) in
-    let b = kept_length x (filter P (without v xs)) (P x) in
-    omega (arith, i (omega (arith, ap one_if e)))
-
 kept_out : (P : ℕ → Bool) (v : ℕ) (xs : List ℕ) → occurs v xs ≡ 1 → length (filter P xs) ≡ cond (P v) 1 0 + length (filter P (without v xs))
 kept_out P v [] h = absurd (omega (arith, h))
-kept_out P v (x ∷ xs) h = kept_out_step P v x xs h (λ q. kept_out P v xs q) (eqb x v) refl
+kept_out P v (x ∷ xs) h = grind (arith, nat_tests, h, kept_out P v xs, without_none v xs)
 
 -- tests that agree on a range keep the same
 pub kept_range : (test other : ℕ → Bool) (s m : ℕ) → ((i : ℕ) → s ≤ i → i < s + m → test i ≡ other i)
@@ -59,12 +39,11 @@ module _ (price : Price) (n : ℕ) (linked : ℕ → ℕ → Bool) where
       let test : ℕ → Bool = λ x. P (picked price (start n linked) (x - 1)) in
       let e : i + 1 - 1 ≡ i = omega arith in
       let e' : suc i + 1 ≡ i + 1 + 1 = omega arith in
-      let a = kept_length (i + 1) (filter test (range_with_len (i + 1 + 1) m)) (test (i + 1)) in
-      let b : cond {A = ℕ} (test (i + 1)) 1 0 ≡ cond {A = ℕ} (P (picked price (start n linked) i)) 1 0 = ap (λ x. cond {A = ℕ} (P (picked price (start n linked) x)) 1 0) e in
+      let b : test (i + 1) ≡ P (picked price (start n linked) i) = ap (λ x. P (picked price (start n linked) x)) e in
       let c : length (filter test (range_with_len (i + 1 + 1) m)) ≡ length (filter P (left_at price n linked (suc i))) =
       ap (λ x. length (filter test (range_with_len x m))) (sym e') ∙ kept_left P m (suc i) (omega arith) in
       let d = kept_out P (picked price (start n linked) i) (left_at price n linked i) (picked_among price n linked i (omega arith)) in
-      omega (arith, a, b, c, d)
+      grind (arith, b, c, d)
 
   pub column_length : (j : ℕ) → j < n
       → length (column price (start n linked) n (j + 1)) ≡ degree (remaining price (start n linked) j) (picked price (start n linked) j)

@@ -35,12 +35,15 @@ module _ (price : Price) (n : ℕ) (linked : ℕ → ℕ → Bool) where
   position_is k l h =
       let v = picked price g (k - 1) in
       let b = label price n linked (k - 1) (omega arith) in
-      get_or-map-range_with_len (place_from 1 (order price g n)) 1 n (v - 1) v 0 (omega (arith, b.0, b.1)) (omega (arith, b.0))
-      ∙ ap (place_from 1 (order price g n)) (sym (order_at (k - 1) (omega arith)))
-      ∙ place_at (order price g n) 1 (k - 1)
-      (λ i j p q e. apart price n linked i j p (omega (arith, order_length)) (sym (order_at i (omega (arith, order_length))) ∙ e ∙ order_at j (omega (arith, order_length))))
-      (omega (arith, order_length))
-      ∙ (let q : 1 + (k - 1) ≡ k = omega arith in q)
+      let once : (i j : ℕ) → i < j → j < length (order price g n) → get_or (order price g n) i 0 ≡ get_or (order price g n) j 0 → ⊥ =
+      λ i j p q e. apart price n linked i j p (omega (arith, order_length)) (sym (order_at i (omega (arith, order_length))) ∙ e ∙ order_at j (omega (arith, order_length))) in
+      grind (
+        arith,
+        l,
+        order_at (k - 1) (omega arith),
+        get_or-map-range_with_len (place_from 1 (order price g n)) 1 n (v - 1) v 0 (omega (arith, b.0, b.1)) (omega (arith, b.0)),
+        place_at (order price g n) 1 (k - 1) once (omega (arith, order_length)),
+      )
 
   rows_are : (k : ℕ) → 1 ≤ k → k ≤ n → rows_in A k ≡ col k
   rows_are k l h =

@@ -3,6 +3,7 @@ pub mod Laid
 pub mod Layout
 pub mod Lookups
 pub mod Planned
+pub mod Positions
 pub mod Refusals
 pub mod Scan
 pub mod Shown
@@ -10,3 +11,4 @@ pub mod Stages
 pub mod Subject
 pub mod Tables
 pub mod Views
+pub mod Walks

@@ -1,5 +1,5 @@
 -- What a plan answers, over its arrays. Labels, positions and the rows of columns count from 1, places from 0.
-use Rattle.std.specs.Prelude.{ℕ, ◌+◌, ◌-◌, min, max, cond, ◌&&◌, List, [], ◌∷◌, length, take, drop, Some, None, Err, Option, Result, ◌==◌, nat_le, nat_lt, slice_index}
+use Rattle.std.specs.Prelude.{ℕ, ◌+◌, ◌-◌, min, max, Bool, cond, ◌&&◌, List, [], ◌∷◌, length, take, drop, Some, None, Err, Option, Result, ◌==◌, nat_le, nat_lt, slice_index}
 use Rattle.plan.specs.declared.refusals.Refusal.{Refusal}
 use Rattle.plan.specs.declared.refusals.Refusal.TheVariants.{OutOfRange}
 use Rattle.plan.specs.Planned.{Arrays}
@@ -21,6 +21,10 @@ start_in a k = slice_index a.starts (k - 1)
 -- the rows of column k, below its diagonal
 abbrev pub rows_in : Arrays → ℕ → List ℕ
 rows_in a k = take (start_in a (k + 1) - (start_in a k + 1)) (drop (start_in a k + 1) a.rows)
+
+-- whether each of these rows is a link of the sheet
+abbrev pub links_in : Arrays → ℕ → List Bool
+links_in a k = take (start_in a (k + 1) - (start_in a k + 1)) (drop (start_in a k + 1) a.links)
 
 -- the label at the first of the rows, 0 where there is none
 abbrev pub first_label : Arrays → List ℕ → ℕ

@@ -1,20 +1,17 @@
--- The pick among node records: record i is of label i + 1.
-use Rattle.std.specs.Prelude.{ℕ, ◌+◌, cond, List, [], ◌∷◌, Some, None, Option, nat_lt}
+-- The pick among the labels that are left, by their records.
+use Rattle.std.specs.Prelude.{ℕ, ◌-◌, ◌<◌, ◌≤◌, Bool, List, nat_lt}
+use Rattle.std.specs.List.{All}
 use Rattle.plan.specs.declared.records.NodeRecord.{NodeRecord}
+use Rattle.plan.specs.Tables.{degree_in}
 
--- the better of what was found and label v at price p: what was found stays where the prices are equal
-abbrev pub better : Option (ℕ × ℕ) → ℕ → ℕ → Option (ℕ × ℕ)
-better None v p = Some (v, p)
-better (Some b) v p = cond (nat_lt p b.1) (Some (v, p)) (Some b)
+-- each of the labels is one of 1 to n
+abbrev pub Labels : ℕ → List ℕ → Type 0
+Labels n = All (λ v. (0 < v) × (v ≤ n))
 
--- the label and the price that a scan from label v on finds, of those that are not gone
-abbrev pub scan : (ℕ → ℕ → ℕ) → Option (ℕ × ℕ) → ℕ → List NodeRecord → Option (ℕ × ℕ)
-scan price best v [] = best
-scan price best v (r ∷ rs) = scan price (cond r.gone best (better best v (price v r.degree))) (v + 1) rs
+-- the price of a label at the degree that its record has
+abbrev pub price_in : (ℕ → ℕ → ℕ) → List NodeRecord → ℕ → ℕ
+price_in price nodes v = price v (degree_in nodes (v - 1))
 
-abbrev pub label_of : Option (ℕ × ℕ) → Option ℕ
-label_of None = None
-label_of (Some b) = Some b.0
-
-abbrev pub next_of : (ℕ → ℕ → ℕ) → List NodeRecord → Option ℕ
-next_of price rs = label_of (scan price None 1 rs)
+-- whether the price of label v is below that of label w
+abbrev pub cheaper : (ℕ → ℕ → ℕ) → List NodeRecord → ℕ → ℕ → Bool
+cheaper price nodes v w = nat_lt (price_in price nodes v) (price_in price nodes w)

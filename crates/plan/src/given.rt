@@ -24,8 +24,8 @@ impl GivenOrder {
             return Err(Refusal::NoOrder);
         }
         let mut places = [u32::MAX; 512];
-        for i in 0..sheet.n() as usize {
-            places[order[i] as usize - 1] = i as u32 + 1;
+        for (i, label) in order[..sheet.n() as usize].iter().enumerate() {
+            places[*label as usize - 1] = i as u32 + 1;
         }
         Ok(GivenOrder { places })
     }

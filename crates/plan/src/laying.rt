@@ -1,7 +1,14 @@
-//! The arrays of a plan, from the order and the rows after the last elimination.
-ghost use Rattle.std.specs.Prelude.{◌≡◌, ℕ, ◌+◌, ◌<◌, ◌≤◌, ◌++◌, map, length, vec_len, vec_capacity, ◌≢◌, slice_index};
-ghost use Rattle.plan.specs.Laid.{listed, at_positions, laid_rows, laid_starts, laid_marks};
+//! What the columns of a plan are laid out from: the order, its inverse, and the rows after the last elimination.
+ghost use Rattle.std.specs.Prelude.{◌≡◌, ℕ, ◌-◌, ◌<◌, ◌≤◌, ◌&&◌, length, ◌≢◌, nat_lt, slice_index};
+ghost use Rattle.nodeset.specs.Rows.{linked_in as adjacent};
+ghost use Rattle.nodeset.specs.Sets.{has};
+ghost use Rattle.plan.specs.Laid.{Later};
 ghost use Rattle.plan.specs.Layout.{Undoes};
+ghost use Rattle.plan.specs.Tables.{Inside};
+
+use nodeset::rows::Rows;
+use nodeset::sets::NodeSet;
+use sheet::sheets::Sheet;
 
 /// The position of each label.
 pub(crate) fn invert(order: &[u16], positions: &mut [u16])
@@ -11,64 +18,37 @@ pub(crate) fn invert(order: &[u16], positions: &mut [u16])
     requires apart { (k j : ℕ) → k < j → j < length order.now → slice_index order.now k ≢ slice_index order.now j }
     ensures { Undoes (length order.now) order.now positions.new }
 {
-    for k in 0..order.len() {
-        positions[order[k] as usize - 1] = k as u16 + 1;
+    for (k, label) in order.iter().enumerate() {
+        positions[*label as usize - 1] = k as u16 + 1;
     }
 }
 
-/// Appends the rows of the column at index k, below its diagonal, and beside each whether it is a link of the sheet.
-fn lay_column(
-    order: &[u16],
-    cells: &[bool],
-    links: &[bool],
-    k: usize,
-    rows: &mut Vec<u16>,
-    marks: &mut Vec<bool>,
-)
-    requires small { length order.now ≤ 512 }
-    requires size { (length cells.now ≡ 262144) × (length links.now ≡ 262144) }
-    requires labels { (j : ℕ) → j < length order.now → (0 < slice_index order.now j) × (slice_index order.now j ≤ 512) }
-    requires within { k < length order.now }
-    requires room { vec_len rows.old + length (listed (length order.now) order.now cells.now (k + 1)) ≤ vec_capacity rows.old }
-    requires space { vec_len marks.old + length (listed (length order.now) order.now cells.now (k + 1)) ≤ vec_capacity marks.old }
-    ensures rows { rows.new.items ≡ rows.old.items ++ listed (length order.now) order.now cells.now (k + 1) }
-    ensures marks { marks.new.items ≡ marks.old.items ++ map (at_positions order.now links.now (k + 1)) (listed (length order.now) order.now cells.now (k + 1)) }
-    ensures capacity { (vec_capacity rows.new ≡ vec_capacity rows.old) × (vec_capacity marks.new ≡ vec_capacity marks.old) }
-{
-    let v = order[k] as usize - 1;
-    for i in k + 1..order.len() {
-        let w = order[i] as usize - 1;
-        if cells[v * 512 + w] {
-            rows.push_reserved(i as u16 + 1);
-            marks.push_reserved(links[v * 512 + w]);
+/// An elimination of all nodes: the labels in the order in which they went, the position of each, the row that each node had
+/// as it went, and the sheet.
+#[derive(Drop)]
+pub(crate) struct Elimination<'a> {
+    pub(crate) order: &'a [u16],
+    pub(crate) positions: &'a [u16],
+    pub(crate) graph: &'a Rows,
+    pub(crate) sheet: &'a Sheet,
+    ghost small: { length order.now ≤ 512 },
+    ghost long: { length positions.now ≡ length order.now },
+    ghost ranked: { Undoes (length order.now) order.now positions.now },
+    ghost placed: { Undoes (length order.now) positions.now order.now },
+    ghost inside: { Inside (length order.now) (adjacent graph.now) },
+    ghost later: { Later order.now (adjacent graph.now) },
+}
+
+impl Elimination<'_> {
+    /// The indices in the order, one less than the positions, of the neighbours that the node at index k had as it went.
+    pub(crate) fn column(&self, k: usize) -> NodeSet
+        requires { k < length self.now.order.now }
+        ensures { (i : ℕ) → has result i ≡ (nat_lt i (length self.now.order.now) && adjacent self.now.graph.now (slice_index self.now.order.now k - 1) (slice_index self.now.order.now i - 1)) }
+    {
+        let mut column = NodeSet::empty();
+        for node in self.graph.row(self.order[k] - 1).iter() {
+            column.insert(self.positions[node as usize] - 1);
         }
-    }
-}
-
-/// Lays out all columns, one after the other, and where each starts.
-pub(crate) fn lay_out(
-    order: &[u16],
-    cells: &[bool],
-    links: &[bool],
-    starts: &mut Vec<u32>,
-    rows: &mut Vec<u16>,
-    marks: &mut Vec<bool>,
-)
-    requires small { length order.now ≤ 512 }
-    requires size { (length cells.now ≡ 262144) × (length links.now ≡ 262144) }
-    requires labels { (j : ℕ) → j < length order.now → (0 < slice_index order.now j) × (slice_index order.now j ≤ 512) }
-    requires empty { (vec_len starts.old ≡ 0) × ((vec_len rows.old ≡ 0) × (vec_len marks.old ≡ 0)) }
-    requires few { length (laid_rows (listed (length order.now) order.now cells.now) (length order.now)) ≤ 8192 }
-    requires room { (513 ≤ vec_capacity starts.old) × ((8192 ≤ vec_capacity rows.old) × (8192 ≤ vec_capacity marks.old)) }
-    ensures starts { starts.new.items ≡ laid_starts (listed (length order.now) order.now cells.now) (length order.now) }
-    ensures rows { rows.new.items ≡ laid_rows (listed (length order.now) order.now cells.now) (length order.now) }
-    ensures marks { marks.new.items ≡ laid_marks (listed (length order.now) order.now cells.now) (at_positions order.now links.now) (length order.now) }
-{
-    starts.push_reserved(0);
-    for k in 0..order.len() {
-        rows.push_reserved(k as u16 + 1);
-        marks.push_reserved(false);
-        lay_column(order, cells, links, k, rows, marks);
-        starts.push_reserved(rows.len() as u32);
+        column
     }
 }

@@ -1,8 +1,10 @@
 //! Elimination plans: from a sheet and a picking rule to an order, a tree, columns and a store layout.
 #![tactic(auto)]
 
+pub mod columns;
 pub mod given;
 mod laying;
+mod layout;
 pub mod lookups;
 pub mod making;
 mod planner;
@@ -10,5 +12,4 @@ pub mod plans;
 mod records;
 pub mod refusals;
 pub mod room;
-mod rows;
 pub mod rules;

@@ -1,10 +1,13 @@
 //! What is asked of a plan.
-ghost use Rattle.std.specs.Prelude.{◌≡◌, ℕ, ◌<◌, ◌≤◌, false, ◌&&◌, length, is_ok, Ok, MatchResult, nat_le, nat_lt, slice_index, slice_index_or};
+ghost use Rattle.std.specs.Prelude.{◌≡◌, ℕ, ◌<◌, ◌≤◌, false, ◌&&◌, length, is_ok, Ok, IfOk, MatchResult, nat_le, nat_lt, slice_index, slice_index_or};
 ghost use Rattle.plan.specs.declared.refusals.Refusal.TheVariants.{OutOfRange};
-ghost use Rattle.plan.specs.Lookups.{size_in, label_in, position_in, rows_in, parent_in, within, place_in, place_of};
+ghost use Rattle.std.specs.List.{range_with_len};
+ghost use Rattle.plan.specs.Lookups.{size_in, label_in, position_in, rows_in, parent_in, within, place_of};
 ghost use Rattle.plan.specs.Planned.{Keeps};
 ghost use Rattle.plan.specs.Views.{arrays_of};
+ghost use Rattle.plan.specs.Walks.{column_is, columns_at, columns_left};
 
+use crate::columns::{Column, Columns};
 use crate::plans::Plan;
 use crate::refusals::Refusal;
 
@@ -61,32 +64,54 @@ impl Plan {
 
     /// Whether a label or a position is 1 to n.
     fn check(&self, k: u16) -> Result<(), Refusal>
-        ensures { result ≡ within (arrays_of self.now) k (Ok tt) }
+        ensures answer { result ≡ within (arrays_of self.now) k (Ok tt) }
+        ensures inside { IfOk result (λ _. (0 < k) × (k ≤ size_in (arrays_of self.now))) }
     {
-        if k < 1 || k as usize > self.order.len() {
+        if k < 1 || k > self.n() {
             return Err(Refusal::OutOfRange);
         }
         Ok(())
+    }
+
+    /// The columns, in the order of their positions.
+    pub fn columns(&self) -> Columns<'_>
+        ensures { columns_left result ≡ columns_at self.now (range_with_len 1 (size_in (arrays_of self.now))) }
+    {
+        Columns {
+            plan: self,
+            left: 1..self.n() + 1,
+        }
+    }
+
+    /// The column at a position.
+    pub fn column_at(&self, position: u16) -> Result<Column<'_>, Refusal>
+        ensures ok { is_ok result ≡ (nat_lt 0 position && nat_le position (size_in (arrays_of self.now))) }
+        ensures cases { MatchResult result (λ c. column_is c ≡ (self.now, position)) (λ e. e ≡ OutOfRange) }
+    {
+        self.check(position)?;
+        Ok(Column {
+            plan: self,
+            position,
+        })
+    }
+
+    /// The column of a label.
+    pub fn column_of(&self, label: u16) -> Result<Column<'_>, Refusal>
+        ensures ok { is_ok result ≡ (nat_lt 0 label && nat_le label (size_in (arrays_of self.now))) }
+        ensures cases { MatchResult result (λ c. column_is c ≡ (self.now, position_in (arrays_of self.now) label)) (λ e. e ≡ OutOfRange) }
+    {
+        self.check(label)?;
+        Ok(Column {
+            plan: self,
+            position: self.positions[label as usize - 1],
+        })
     }
 
     /// The label at a position.
     pub fn label_at(&self, position: u16) -> Result<u16, Refusal>
         ensures { result ≡ within (arrays_of self.now) position (Ok (label_in (arrays_of self.now) position)) }
     {
-        self.check(position)?;
-        Ok(self.order[position as usize - 1])
-    }
-
-    /// The rows of column k, below its diagonal.
-    fn column(&self, k: u16) -> &[u16]
-        requires { (0 < k) × (k ≤ size_in (arrays_of self.now)) }
-        ensures value { result.now ≡ rows_in (arrays_of self.now) k }
-        ensures above { (i : ℕ) → i < length result.now → (k < slice_index result.now i) × (slice_index result.now i ≤ size_in (arrays_of self.now)) }
-        ensures rises { (i j : ℕ) → i < j → j < length result.now → slice_index result.now i < slice_index result.now j }
-    {
-        let first = self.starts[k as usize - 1] as usize;
-        let past = self.starts[k as usize] as usize;
-        &self.rows[first + 1..past]
+        Ok(self.column_at(position)?.label())
     }
 
     /// The rows of the column at a position, below its diagonal.
@@ -94,72 +119,34 @@ impl Plan {
         ensures ok { is_ok result ≡ (nat_lt 0 position && nat_le position (size_in (arrays_of self.now))) }
         ensures cases { MatchResult result (λ s. s.now ≡ rows_in (arrays_of self.now) position) (λ e. e ≡ OutOfRange) }
     {
-        self.check(position)?;
-        Ok(self.column(position))
-    }
-
-    /// The label of the parent of position k, 0 at a root.
-    fn parent(&self, k: u16) -> u16
-        requires { (0 < k) × (k ≤ size_in (arrays_of self.now)) }
-        ensures { result ≡ parent_in (arrays_of self.now) k }
-    {
-        match self.column(k) {
-            [] => 0,
-            [row, ..] => self.order[*row as usize - 1],
-        }
-    }
-
-    /// The position of a label.
-    fn position(&self, label: u16) -> u16
-        requires { (0 < label) × (label ≤ size_in (arrays_of self.now)) }
-        ensures value { result ≡ position_in (arrays_of self.now) label }
-        ensures inside { (0 < result) × (result ≤ size_in (arrays_of self.now)) }
-    {
-        self.positions[label as usize - 1]
+        Ok(self.column_at(position)?.rows())
     }
 
     /// The position of a label, and its parent's label: 0 at a root.
     pub fn node(&self, label: u16) -> Result<(u16, u16), Refusal>
         ensures { result ≡ within (arrays_of self.now) label (Ok (position_in (arrays_of self.now) label, parent_in (arrays_of self.now) (position_in (arrays_of self.now) label))) }
     {
-        self.check(label)?;
-        let position = self.position(label);
-        Ok((position, self.parent(position)))
-    }
-
-    /// The place of row i of column j, the diagonal first, then the rows; none where the column does not have i.
-    fn place_at(&self, i: u16, j: u16) -> Option<usize>
-        requires { (0 < j) × (j ≤ size_in (arrays_of self.now)) }
-        ensures { result ≡ place_in (arrays_of self.now) i j }
-    {
-        let first = self.starts[j as usize - 1] as usize;
-        if i == j {
-            return Some(first);
-        }
-        match self.column(j).binary_search(&i) {
-            Ok(row) => Some(first + 1 + row),
-            Err(_) => None,
-        }
+        let column = self.column_of(label)?;
+        Ok((column.position, column.parent_label()))
     }
 
     /// The place of two labels, whichever stands first; none where the plan has none.
     pub fn place(&self, a: u16, b: u16) -> Result<Option<usize>, Refusal>
         ensures { result ≡ within (arrays_of self.now) a (within (arrays_of self.now) b (Ok (place_of (arrays_of self.now) a b))) }
     {
-        self.check(a)?;
-        self.check(b)?;
-        let i = self.position(a);
-        let j = self.position(b);
-        Ok(self.place_at(i.max(j), i.min(j)))
+        let first = self.column_of(a)?;
+        let second = self.column_of(b)?;
+        Ok(if first.position < second.position {
+            first.place(second.position)
+        } else {
+            second.place(first.position)
+        })
     }
 
     /// Whether a place is a link of the sheet. The diagonals aren't, and nor is what is no place.
     pub fn is_link(&self, place: usize) -> bool
         ensures { result ≡ slice_index_or (arrays_of self.now).links place false }
     {
-        if place >= self.links.len() {
-            return false;
-        }
-        self.links[place]
+        self.links.get(place).copied().unwrap_or(false)
     }
 }

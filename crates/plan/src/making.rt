@@ -8,7 +8,7 @@ ghost use Rattle.plan.specs.Planned.{planned};
 ghost use Rattle.plan.specs.Subject.{Answers};
 ghost use Rattle.plan.specs.Views.{arrays_of};
 
-use crate::laying::{invert, lay_out};
+use crate::laying::{Elimination, invert};
 use crate::planner::Planner;
 use crate::plans::Plan;
 use crate::refusals::Refusal;
@@ -23,31 +23,28 @@ pub fn make<R: Rule>(room: Room, sheet: &Sheet, rule: &R) -> Result<Plan, Refusa
     ensures keeps { Eliminates (R.Rule.priced rule.now) (pattern_of sheet.now).n (linked_in (pattern_of sheet.now).links) }
 {
     let Room {
-        cells,
+        graph,
         nodes,
+        left,
         order,
         mut positions,
-        mut starts,
-        mut rows,
-        mut links,
+        mut layout,
     } = room;
-    let mut planner = Planner::start(sheet, cells, nodes, order);
+    let mut planner = Planner::start(sheet, graph, nodes, left, order);
     planner.eliminate_all(rule)?;
     positions.truncate(planner.n);
     invert(&planner.order, &mut positions);
-    lay_out(
-        &planner.order,
-        &planner.cells,
-        sheet.link_table(),
-        &mut starts,
-        &mut rows,
-        &mut links,
-    );
+    layout.lay_out(&Elimination {
+        order: &planner.order,
+        positions: &positions,
+        graph: &planner.rows,
+        sheet,
+    });
     Ok(Plan {
         order: planner.order,
         positions,
-        starts,
-        rows,
-        links,
+        starts: layout.starts,
+        rows: layout.rows,
+        links: layout.links,
     })
 }

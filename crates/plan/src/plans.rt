@@ -5,6 +5,7 @@ ghost use Rattle.plan.specs.Layout.{Undoes, Starts, Diagonals, Rises, Within, Cl
 /// The labels in the order in which they go, the position of each label, where each column starts, the rows of the columns,
 /// each with its diagonal first, and beside each place whether it is a link of the sheet. Labels and positions count from 1.
 /// Whatever exists as a `Plan` keeps the rules of the layout; no later call checks them.
+// Rows and marks are two arrays, by a rule of the project: each is lent whole, and elimination walks rows alone.
 #[derive(Drop)]
 pub struct Plan {
     pub(crate) order: Vec<u16>,

@@ -1,7 +1,8 @@
 //! Picking rules: which node goes next.
-ghost use Rattle.std.specs.Prelude.{◌≡◌, ℕ, ◌≤◌, List, length};
+ghost use Rattle.std.specs.Prelude.{◌≡◌, ℕ, ◌<◌, ◌≤◌, length, MatchOption};
+ghost use Rattle.std.specs.List.{IsFirstBest};
 ghost use Rattle.graph.specs.Picking.{by_degree};
-ghost use Rattle.plan.specs.Scan.{next_of};
+ghost use Rattle.plan.specs.Scan.{Labels, price_in, cheaper};
 
 use crate::records::NodeRecord;
 
@@ -26,29 +27,23 @@ impl Rule for LeastDegree {
     }
 }
 
-/// The label of least price among the nodes that are not gone; of equal prices the lowest.
-pub(crate) fn next<R: Rule>(rule: &R, nodes: &[NodeRecord]) -> Option<u16>
-    requires { length nodes.now ≤ 512 }
-    ensures { result ≡ next_of (R.Rule.priced rule.now) nodes.now }
+/// The price of a label at the degree that its record has.
+fn price_of<R: Rule>(rule: &R, nodes: &[NodeRecord], label: u16) -> u32
+    requires { (0 < label) × (label ≤ length nodes.now) }
+    ensures { result ≡ price_in (R.Rule.priced rule.now) nodes.now label }
 {
-    let mut best: Option<(u16, u32)> = None;
-    for i in 0..nodes.len() {
-        let node = nodes[i];
-        if !node.gone {
-            let label = i as u16 + 1;
-            let price = rule.price(label, node.degree);
-            best = match best {
-                None => Some((label, price)),
-                Some(b) => if price < b.1 {
-                    Some((label, price))
-                } else {
-                    Some(b)
-                },
-            };
-        }
-    }
-    match best {
-        None => None,
-        Some(b) => Some(b.0),
-    }
+    rule.price(label, nodes[label as usize - 1].degree)
+}
+
+/// The index of the label that goes next among those that are left: the first at the least price. They ascend, so it is the
+/// lowest at that price. Two passes, since the first has no branch that depends on what it finds.
+pub(crate) fn next<R: Rule>(rule: &R, nodes: &[NodeRecord], left: &[u16]) -> Option<usize>
+    requires { Labels (length nodes.now) left.now }
+    ensures { MatchOption result (length left.now ≡ 0) (λ i. IsFirstBest (cheaper (R.Rule.priced rule.now) nodes.now) left.now (length left.now) i) }
+{
+    let first = price_of(rule, nodes, *left.first()?);
+    let prices = left.iter().map(|label| price_of(rule, nodes, *label));
+    let least = prices.fold(first, |least, price| least.min(price));
+    left.iter()
+        .position(|label| price_of(rule, nodes, *label) == least)
 }

@@ -7,6 +7,7 @@ use plan::rules::LeastDegree;
 use sheet::reading::read;
 use sheet::sheets::Sheet;
 use std::alloc::{AllocError, Global};
+use std::iter::once;
 use std::test::Fail;
 
 /// The sheet of n nodes with some links and some order words.
@@ -17,10 +18,8 @@ pub(crate) fn site(
     order: &[u16],
 ) -> Result<Sheet, Fail> {
     let bytes = encoded(heap, n, links, order)?;
-    match read(sheet::room::Room::reserve(heap)?, bytes.as_slice()) {
-        Ok(sheet) => Ok(sheet),
-        Err(fault) => Err(Fail::new(fault)),
-    }
+    let room = sheet::room::Room::reserve(heap)?;
+    read(room, bytes.as_slice()).map_err(Fail::new)
 }
 
 /// The bytes of that sheet: a head, the links, the order words and the end, each word with its low byte first.
@@ -30,36 +29,28 @@ fn encoded(
     links: &[(u16, u16)],
     order: &[u16],
 ) -> Result<Vec<u8>, AllocError> {
-    let mut bytes = Vec::new(heap);
-    let mut words = 1u32;
-    bytes.extend_from_slice(&(0x1000_0000 | n as u32).to_le_bytes())?;
-    for (a, b) in links {
-        bytes.extend_from_slice(&(0x2000_0000 | (*a as u32) << 10 | *b as u32).to_le_bytes())?;
-        words = words.wrapping_add(1);
-    }
-    for label in order {
-        bytes.extend_from_slice(&(0x3000_0000 | *label as u32).to_le_bytes())?;
-        words = words.wrapping_add(1);
-    }
-    bytes.extend_from_slice(&(0xf000_0000 | words).to_le_bytes())?;
-    Ok(bytes)
+    let head = 0x1000_0000 | u32::from(n);
+    let links = links
+        .iter()
+        .map(|&(a, b)| 0x2000_0000 | u32::from(a) << 10 | u32::from(b));
+    let order = order.iter().map(|&label| 0x3000_0000 | u32::from(label));
+    let mut words: Vec<u32> = once(head).chain(links).chain(order).collect(heap)?;
+    let count = (words.len() & 0x0fff_ffff) as u32;
+    words.push(0xf000_0000 | count)?;
+    words
+        .iter()
+        .flat_map(|word| word.to_le_bytes())
+        .collect(heap)
 }
 
 /// The labels 1 to n, each after the one before.
 pub(crate) fn ascending(heap: Global, n: u16) -> Result<Vec<u16>, AllocError> {
-    let mut labels = Vec::new(heap);
-    for label in 1..=n {
-        labels.push(label)?;
-    }
-    Ok(labels)
+    (1..=n).collect(heap)
 }
 
 /// Node 1 linked to each of 2 to n, and order words that name it first.
 pub(crate) fn hub(heap: Global, n: u16) -> Result<Sheet, Fail> {
-    let mut links = Vec::new(heap);
-    for leaf in 2..=n {
-        links.push((1, leaf))?;
-    }
+    let links: Vec<(u16, u16)> = (2..=n).map(|leaf| (1, leaf)).collect(heap)?;
     site(heap, n, links.as_slice(), ascending(heap, n)?.as_slice())
 }
 
@@ -71,8 +62,5 @@ pub(crate) fn by_degree(heap: Global, sheet: &Sheet) -> Result<Result<Plan, Refu
 /// The plan of a sheet by its order words.
 pub(crate) fn by_order(heap: Global, sheet: &Sheet) -> Result<Result<Plan, Refusal>, AllocError> {
     let room = plan::room::Room::reserve(heap)?;
-    match GivenOrder::of(sheet) {
-        Ok(rule) => Ok(make(room, sheet, &rule)),
-        Err(refusal) => Ok(Err(refusal)),
-    }
+    Ok(GivenOrder::of(sheet).and_then(|rule| make(room, sheet, &rule)))
 }

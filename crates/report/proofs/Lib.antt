@@ -1,4 +1,3 @@
 pub mod Labels
-pub mod Places
 pub mod Spelling
 pub mod Turns

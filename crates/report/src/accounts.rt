@@ -52,6 +52,7 @@ impl fmt::Display for Neighbours<'_> {
 
     fn fmt<W: fmt::Write>(&self, f: &mut fmt::Formatter<W>) -> fmt::Result {
         let Neighbours(sheet, label) = *self;
+        // The loop of `Labels` with a test: a function over any iterator would need more clauses than it has lines.
         for other in 1..=sheet.n() {
             if sheet.linked(label, other) {
                 write!(f, " {other}")?;

@@ -1,6 +1,5 @@
 //! What is wrong with some bytes, in words: the fault, the word at its place and the rule that it breaks.
-ghost use Rattle.std.specs.Prelude.{◌≡◌, ◌<◌, false, Some};
-ghost use Rattle.std.specs.Fmt.{digit_glyph};
+ghost use Rattle.std.specs.Prelude.{◌≡◌, Some};
 ghost use Rattle.report.specs.Refusals.{hex_bytes, word_text, bytes_at, refusal_text};
 
 use crate::rules::rule;
@@ -60,23 +59,9 @@ impl fmt::Display for HexBytes<'_> {
     ghost output = { λ x. Some (hex_bytes x.0.now) };
 
     fn fmt<W: fmt::Write>(&self, f: &mut fmt::Formatter<W>) -> fmt::Result {
-        for byte in self.0.iter().rev() {
-            let high = hex_digit(*byte / 16);
-            let low = hex_digit(*byte % 16);
-            write!(f, "{high}{low}")?;
+        for &byte in self.0.iter().rev() {
+            write!(f, "{byte:02x}")?;
         }
         Ok(())
-    }
-}
-
-/// A digit of a number in hexadecimal.
-fn hex_digit(value: u8) -> char
-    requires { value < 16 }
-    ensures { result ≡ digit_glyph false value }
-{
-    if value < 10 {
-        (b'0' + value) as char
-    } else {
-        (b'a' + (value - 10)) as char
     }
 }

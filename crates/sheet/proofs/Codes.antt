@@ -1,14 +1,13 @@
 -- Words as numbers and numbers as bytes, both ways.
-use Rattle.std.proofs.Common.{◌≡◌, ℕ, ◌+◌, ◌*◌, ◌/◌, ◌%◌, ◌^◌, ◌<◌, Bool, true, false, cond, eqb, ◌⊎◌, List, [], ◌∷◌, ◌++◌, Ok, Err, Result, sym, refl, ap, ◌∙◌, inl, inr, ⊎_elim, arith}
+use Rattle.std.proofs.Common.{◌≡◌, ℕ, ◌+◌, ◌*◌, ◌/◌, ◌%◌, ◌^◌, ◌<◌, cond, eqb, List, [], ◌∷◌, ◌++◌, Ok, Result, sym, refl, ap, ◌∙◌, arith}
 use Rattle.std.proofs.lemmas.List.{append_assoc}
-use Rattle.std.proofs.lemmas.Bool.{eqb-true}
+use Rattle.std.proofs.lemmas.Bool.{cond_both, eqb-true}
 use Rattle.sheet.specs.declared.words.Word.{Word}
 use Rattle.sheet.specs.declared.words.Word.TheVariants.{Head, Link, Order, End}
 use Rattle.sheet.specs.declared.words.WordFault.{WordFault}
-use Rattle.sheet.specs.declared.words.WordFault.TheVariants.{UnknownKind, SpareBits}
 use Rattle.sheet.specs.Layouts.{number, four_bytes, encoded}
-use Rattle.sheet.specs.Words.{word, unspared, decoded}
-use Rattle.sheet.proofs.Steps.{never, same}
+use Rattle.sheet.specs.Words.{word, decoded}
+use Rattle.sheet.proofs.Outcomes.{same, passes}
 
 -- the words that have a number
 abbrev pub Ranged : Word → Type 0
@@ -41,68 +40,49 @@ bytes_word a b c d ha hb hc hd =
 pub word_fits : (a b c d : ℕ) → a < 256 → b < 256 → c < 256 → d < 256 → word a b c d < 2 ^ 32
 word_fits a b c d ha hb hc hd = omega arith
 
--- a number by the fields that are read of it
-abbrev by : ℕ → ℕ → ℕ → Word → Word → Word → Word → ℕ → Result Word WordFault
-by kind spare spare' h l o e p =
-    cond (eqb kind 1) (unspared spare p h) (cond (eqb kind 2) (unspared spare' p l) (cond (eqb kind 3) (unspared spare p o) (cond (eqb kind 15) (Ok e) (Err (UnknownKind p)))))
-
 low_bits : (x a k : ℕ) → a < 2 ^ 10 → x ≡ a + k * 2 ^ 10 → x % 2 ^ 10 ≡ a
 low_bits x a k h e = omega arith
 
 pub decode_number : (w : Word) (p : ℕ) → Ranged w → decoded (number w) p ≡ Ok w
 decode_number (Head n) p h =
     let v = 1 * 2 ^ 28 + n in
-    let e : v / 2 ^ 28 ≡ 1 = omega arith in
-    let f : v / 2 ^ 10 % 2 ^ 18 ≡ 0 = omega arith in
-    let g : v % 2 ^ 10 ≡ n = omega arith in
-    ap (λ k. by k (v / 2 ^ 10 % 2 ^ 18) (v / 2 ^ 20 % 2 ^ 8) (Head (v % 2 ^ 10)) (Link (v / 2 ^ 10 % 2 ^ 10) (v % 2 ^ 10)) (Order (v % 2 ^ 10)) (End (v % 2 ^ 28)) p) e ∙ ap (λ s. unspared s p (Head (v % 2 ^ 10))) f ∙ ap (λ x. Ok (Head x)) g
+    let kind : v / 2 ^ 28 ≡ 1 = omega arith in
+    let spare : v / 2 ^ 10 % 2 ^ 18 ≡ 0 = omega arith in
+    let field : v % 2 ^ 10 ≡ n = omega arith in
+    simp (kind, spare, field)
 decode_number (Link a b) p h =
     let v = 2 * 2 ^ 28 + a * 2 ^ 10 + b in
-    let e : v / 2 ^ 28 ≡ 2 = omega (arith, h.0, h.1) in
-    let f : v / 2 ^ 20 % 2 ^ 8 ≡ 0 = omega (arith, h.0, h.1) in
-    let g : v % 2 ^ 10 ≡ b = omega (arith, h.1) in
-    let g' : v / 2 ^ 10 % 2 ^ 10 ≡ a = low_bits (v / 2 ^ 10) a (2 * 2 ^ 8) h.0 (omega (arith, h.1)) in
-    ap (λ k. by k (v / 2 ^ 10 % 2 ^ 18) (v / 2 ^ 20 % 2 ^ 8) (Head (v % 2 ^ 10)) (Link (v / 2 ^ 10 % 2 ^ 10) (v % 2 ^ 10)) (Order (v % 2 ^ 10)) (End (v % 2 ^ 28)) p) e ∙ ap (λ s. unspared s p (Link (v / 2 ^ 10 % 2 ^ 10) (v % 2 ^ 10))) f ∙ ap (λ x. Ok (Link x (v % 2 ^ 10))) g' ∙ ap (λ x. Ok (Link a x)) g
+    let kind : v / 2 ^ 28 ≡ 2 = omega (arith, h.0, h.1) in
+    let spare : v / 2 ^ 20 % 2 ^ 8 ≡ 0 = omega (arith, h.0, h.1) in
+    let low : v % 2 ^ 10 ≡ b = omega (arith, h.1) in
+    let high : v / 2 ^ 10 % 2 ^ 10 ≡ a = low_bits (v / 2 ^ 10) a (2 * 2 ^ 8) h.0 (omega (arith, h.1)) in
+    simp (kind, spare, low, high)
 decode_number (Order a) p h =
     let v = 3 * 2 ^ 28 + a in
-    let e : v / 2 ^ 28 ≡ 3 = omega arith in
-    let f : v / 2 ^ 10 % 2 ^ 18 ≡ 0 = omega arith in
-    let g : v % 2 ^ 10 ≡ a = omega arith in
-    ap (λ k. by k (v / 2 ^ 10 % 2 ^ 18) (v / 2 ^ 20 % 2 ^ 8) (Head (v % 2 ^ 10)) (Link (v / 2 ^ 10 % 2 ^ 10) (v % 2 ^ 10)) (Order (v % 2 ^ 10)) (End (v % 2 ^ 28)) p) e ∙ ap (λ s. unspared s p (Order (v % 2 ^ 10))) f ∙ ap (λ x. Ok (Order x)) g
+    let kind : v / 2 ^ 28 ≡ 3 = omega arith in
+    let spare : v / 2 ^ 10 % 2 ^ 18 ≡ 0 = omega arith in
+    let field : v % 2 ^ 10 ≡ a = omega arith in
+    simp (kind, spare, field)
 decode_number (End count) p h =
     let v = 15 * 2 ^ 28 + count in
-    let e : v / 2 ^ 28 ≡ 15 = omega arith in
-    let g : v % 2 ^ 28 ≡ count = omega arith in
-    ap (λ k. by k (v / 2 ^ 10 % 2 ^ 18) (v / 2 ^ 20 % 2 ^ 8) (Head (v % 2 ^ 10)) (Link (v / 2 ^ 10 % 2 ^ 10) (v % 2 ^ 10)) (Order (v % 2 ^ 10)) (End (v % 2 ^ 28)) p) e ∙ ap (λ x. Ok (End x)) g
-
-abbrev choice : Bool → Bool → Bool → Bool → Bool → Bool → Bool → Word → Word → Word → Word → ℕ → Result Word WordFault
-choice t1 u1 t2 u2 t3 u3 t4 h l o e p =
-    cond t1 (cond u1 (Ok h) (Err (SpareBits p))) (cond t2 (cond u2 (Ok l) (Err (SpareBits p))) (cond t3 (cond u3 (Ok o) (Err (SpareBits p))) (cond t4 (Ok e) (Err (UnknownKind p)))))
-
-abbrev Chosen : Bool → Bool → Word → Word → Type 0
-Chosen t u x w = (t ≡ true) × (u ≡ true) × (x ≡ w)
-
-chosen : (t1 u1 t2 u2 t3 u3 t4 : Bool) (h l o e w : Word) (p : ℕ) → choice t1 u1 t2 u2 t3 u3 t4 h l o e p ≡ Ok w → Chosen t1 u1 h w ⊎ (Chosen t2 u2 l w ⊎ (Chosen t3 u3 o w ⊎ Chosen t4 true e w))
-chosen true true t2 u2 t3 u3 t4 h l o e w p k = inl (refl, refl, same _ _ k)
-chosen true false t2 u2 t3 u3 t4 h l o e w p k = absurd (never _ _ k)
-chosen false u1 true true t3 u3 t4 h l o e w p k = inr (inl (refl, refl, same _ _ k))
-chosen false u1 true false t3 u3 t4 h l o e w p k = absurd (never _ _ k)
-chosen false u1 false u2 true true t4 h l o e w p k = inr (inr (inl (refl, refl, same _ _ k)))
-chosen false u1 false u2 true false t4 h l o e w p k = absurd (never _ _ k)
-chosen false u1 false u2 false u3 true h l o e w p k = inr (inr (inr (refl, refl, same _ _ k)))
-chosen false u1 false u2 false u3 false h l o e w p k = absurd (never _ _ k)
+    let kind : v / 2 ^ 28 ≡ 15 = omega arith in
+    let field : v % 2 ^ 28 ≡ count = omega arith in
+    simp (kind, field)
 
 -- what is decoded has the number that it came from
 pub number_decode : (v p : ℕ) (w : Word) → v < 2 ^ 32 → decoded v p ≡ Ok w → number w ≡ v
-number_decode v p w fits k =
-    ⊎_elim
-    (λ c. ap number (sym c.2) ∙ at_head (eqb-true (v / 2 ^ 28) 1 c.0) (eqb-true (v / 2 ^ 10 % 2 ^ 18) 0 c.1))
-    (⊎_elim
-    (λ c. ap number (sym c.2) ∙ at_link (eqb-true (v / 2 ^ 28) 2 c.0) (eqb-true (v / 2 ^ 20 % 2 ^ 8) 0 c.1))
-    (⊎_elim
-    (λ c. ap number (sym c.2) ∙ at_order (eqb-true (v / 2 ^ 28) 3 c.0) (eqb-true (v / 2 ^ 10 % 2 ^ 18) 0 c.1))
-    (λ c. ap number (sym c.2) ∙ at_end_lem (eqb-true (v / 2 ^ 28) 15 c.0))))
-    (chosen (eqb (v / 2 ^ 28) 1) (eqb (v / 2 ^ 10 % 2 ^ 18) 0) (eqb (v / 2 ^ 28) 2) (eqb (v / 2 ^ 20 % 2 ^ 8) 0) (eqb (v / 2 ^ 28) 3) (eqb (v / 2 ^ 10 % 2 ^ 18) 0) (eqb (v / 2 ^ 28) 15) (Head (v % 2 ^ 10)) (Link (v / 2 ^ 10 % 2 ^ 10) (v % 2 ^ 10)) (Order (v % 2 ^ 10)) (End (v % 2 ^ 28)) w p k) where
+number_decode v p w fits =
+    kind 1 (λ e h. let k = passes (eqb (v / 2 ^ 10 % 2 ^ 18) 0) _ _ w h in ap number (sym (same _ _ k.1)) ∙ at_head e (eqb-true _ 0 k.0))
+    (kind 2 (λ e h. let k = passes (eqb (v / 2 ^ 20 % 2 ^ 8) 0) _ _ w h in ap number (sym (same _ _ k.1)) ∙ at_link e (eqb-true _ 0 k.0))
+    (kind 3 (λ e h. let k = passes (eqb (v / 2 ^ 10 % 2 ^ 18) 0) _ _ w h in ap number (sym (same _ _ k.1)) ∙ at_order e (eqb-true _ 0 k.0))
+    (kind 15 (λ e h. ap number (sym (same _ _ h)) ∙ at_end_lem e)
+    (λ h. absurd (cc))))) where
+      Gives : Result Word WordFault → Type 0
+      Gives r = r ≡ Ok w → number w ≡ v
+
+      kind : (k : ℕ) {x y : Result Word WordFault} → (v / 2 ^ 28 ≡ k → Gives x) → Gives y → Gives (cond (eqb (v / 2 ^ 28) k) x y)
+      kind k {x} {y} f g = cond_both (eqb (v / 2 ^ 28) k) x y Gives (λ e. f (eqb-true _ k e)) (λ _. g)
+
       at_head : v / 2 ^ 28 ≡ 1 → v / 2 ^ 10 % 2 ^ 18 ≡ 0 → 1 * 2 ^ 28 + v % 2 ^ 10 ≡ v
       at_head e f = omega arith
 

@@ -1,9 +1,9 @@
 -- A reading gives s exactly where the bytes are laid out as s.
-use Rattle.std.proofs.Common.{◌≡◌, ℕ, ◌+◌, ◌<◌, ◌≤◌, true, false, not, ◌&&◌, ◌||◌, eqb, ltb, leb, List, [], ◌∷◌, ◌++◌, length, get_or, Ok, Err, Result, sym, refl, ap, ◌∙◌, subst, arith}
+use Rattle.std.proofs.Common.{◌≡◌, ℕ, ◌+◌, ◌<◌, ◌≤◌, true, false, not, ◌&&◌, eqb, ltb, leb, List, [], ◌∷◌, ◌++◌, length, get_or, Ok, Result, sym, refl, ap, ◌∙◌, subst, arith}
 use Rattle.std.specs.List.{AllByRecursion as All}
 use Rattle.std.proofs.ByRecursion.{All-append, All-map, All-from_get_or}
 use Rattle.std.proofs.lemmas.List.{append-nil, append_assoc, length-append, length_push, get_or_at, get_or_append_left}
-use Rattle.std.proofs.lemmas.Bool.{eq-eqb, ne_eqb, lt-leb, le-ltb, or_from}
+use Rattle.std.proofs.lemmas.Bool.{eq-eqb, ne_eqb, lt-leb}
 use Rattle.std.proofs.lemmas.Bool.Decides.{nat_tests}
 use Rattle.sheet.specs.declared.reading.Phase.{Phase}
 use Rattle.sheet.specs.declared.reading.Phase.TheVariants.{Start, Body, Ended}
@@ -19,31 +19,32 @@ use Rattle.sheet.specs.Words.{word, decoded}
 use Rattle.sheet.proofs.Codes.{Ranged, number_fits, word_bytes, bytes_word, word_fits, decode_number, number_decode, encoded_append}
 use Rattle.sheet.proofs.Prefix.{then_same}
 use Rattle.sheet.proofs.Pigeons.{order_fits}
-use Rattle.sheet.proofs.Places.{given_none, linked_none}
-use Rattle.sheet.proofs.Steps.{never, same, said, said_in, led}
+use Rattle.sheet.proofs.Places.{label_test, given_none, linked_none}
+use Rattle.sheet.proofs.Outcomes.{same, both_ok, mapped_ok}
+use Rattle.sheet.proofs.Steps.{said, said_in, led}
 
 -- From a reading to the layout.
 
 at_end_lem : (ph : Phase) (s : Pattern) (p : ℕ) (t : Pattern) → SoundIn ph s p → at_end ph s p ≡ Ok t → (encoded (said_in ph s) ++ [] ≡ encoded (sheet_words t)) × Lawful t
-at_end_lem Start s p t h e = absurd (never _ _ e)
-at_end_lem Body s p t h e = absurd (never _ _ e)
+at_end_lem Start s p t h e = absurd (cc)
+at_end_lem Body s p t h e = absurd (cc)
 at_end_lem Ended s p t h e =
     subst (λ t. (encoded (said_in Ended s) ++ [] ≡ encoded (sheet_words t)) × Lawful t) (same _ _ e) (append-nil _, h.0)
 
 -- the word and the state that a reading goes on from
 went_on : (s : State) (p : ℕ) (d : Result Word WordFault) (f : State → Result Pattern Fault) (t : Pattern) → and_then (in_word d) (λ w. and_then (accepted s w p) f) ≡ Ok t → (w : Word) × (u : State) × (d ≡ Ok w) × (accepted s w p ≡ Ok u) × (f u ≡ Ok t)
-went_on s p (Err e) f t h = absurd (never _ _ h)
-went_on s p (Ok w) f t h = at (accepted s w p) refl h where
-  at : (r : Result State Fault) → accepted s w p ≡ r → and_then r f ≡ Ok t → (v : Word) × (u : State) × (◌≡◌ {A = Result Word WordFault} (Ok w) (Ok v)) × (accepted s v p ≡ Ok u) × (f u ≡ Ok t)
-  at (Err e) k h = absurd (never _ _ h)
-  at (Ok u) k h = (w, u, refl, k, h)
+went_on s p d f t h =
+    let k = both_ok (in_word d) _ t h in
+    let m = mapped_ok (λ x. x) _ d k.0 k.1 in
+    let l = both_ok (accepted s k.0 p) f t k.2 in
+    (k.0, l.0, m.1 ∙ ap Ok m.2, l.1, l.2)
 
 laid : (s : State) (p : ℕ) (l : List ℕ) (t : Pattern) → Sound s p → All (λ b. b < 256) l → run s p l ≡ Ok t → (encoded (said s) ++ l ≡ encoded (sheet_words t)) × Lawful t
 unfolding run
 laid s p [] t h fit e = at_end_lem s.phase s.sheet p t h e
-laid s p (a ∷ []) t h fit e = absurd (never _ _ e)
-laid s p (a ∷ b ∷ []) t h fit e = absurd (never _ _ e)
-laid s p (a ∷ b ∷ c ∷ []) t h fit e = absurd (never _ _ e)
+laid s p (a ∷ []) t h fit e = absurd (cc)
+laid s p (a ∷ b ∷ []) t h fit e = absurd (cc)
+laid s p (a ∷ b ∷ c ∷ []) t h fit e = absurd (cc)
 laid s p (a ∷ b ∷ c ∷ d ∷ l) t h fit e =
     let k = went_on s p (decoded (word a b c d) p) (λ u. run u (p + 1) l) t e in
     let step = led s k.0 p k.1 h k.3 in
@@ -71,9 +72,6 @@ run_over s p (w ∷ ws) r =
 
 step_over : (s : State) (p : ℕ) (w : Word) (ws : List Word) (t : State) → accepted s w p ≡ Ok t → over s p (w ∷ ws) ≡ over t (p + 1) ws
 step_over s p w ws t e = ap (λ r. and_then r (λ t. over t (p + 1) ws)) e
-
-label_test : (n a : ℕ) → IsLabel n a → (ltb a 1 || ltb n a) ≡ false
-label_test n a h = or_from _ _ (le-ltb a 1 h.0) (le-ltb n a h.1)
 
 link_passes : (n : ℕ) (links : List (ℕ × ℕ)) (a b p : ℕ) → length links < 4096 → IsLabel n a → IsLabel n b → (a ≡ b → ⊥) → linked_in links a b ≡ false → accepted (within (record { n = n; links = links; order = [] })) (Link a b) p ≡ Ok (within (record { n = n; links = links ++ (a, b) ∷ []; order = [] }))
 link_passes n links a b p few ha hb ne new =

@@ -1,10 +1,8 @@
-pub mod Cells
 pub mod Codes
-pub mod Fronts
 pub mod Layouts
+pub mod Outcomes
 pub mod Pigeons
 pub mod Places
 pub mod Prefix
 pub mod Runs
-pub mod Scans
 pub mod Steps

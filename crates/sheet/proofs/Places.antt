@@ -1,9 +1,11 @@
 -- What holds at the places of a list, one element more; and what the scans of a list tell of its places.
-use Rattle.std.proofs.Common.{◌≡◌, ℕ, zero, suc, ◌<◌, Bool, true, false, ◌&&◌, ◌||◌, eqb, ◌⊎◌, List, [], ◌∷◌, ◌++◌, length, get_or, sym, refl, subst, inl, inr, ⊎_elim, arith}
+use Rattle.std.proofs.Common.{◌≡◌, ℕ, ◌<◌, true, false, eqb, ◌⊎◌, List, [], ◌∷◌, ◌++◌, length, get_or, sym, subst, inl, inr, ⊎_elim, arith}
 use Rattle.std.proofs.lemmas.List.{get_or_append_left, get_or_push, length_push}
-use Rattle.std.proofs.lemmas.Bool.{cases_lt, or_parts, or_from, eqb-false, ne_eqb, both_ways}
+use Rattle.std.proofs.lemmas.List.Elements.{All-from_get_or}
+use Rattle.std.proofs.lemmas.List.Folds.{list_any_at, list_any_none}
+use Rattle.std.proofs.lemmas.Bool.{cases_lt, eq-eqb, ne_eqb, leb-true, le-leb, and_parts, and_from, both_ways}
 use Rattle.std.proofs.lemmas.Bool.Decides.{nat_tests}
-use Rattle.sheet.specs.Patterns.{IsLabel, SamePair, LinkLabels, linked_in, given_in}
+use Rattle.sheet.specs.Patterns.{IsLabel, is_label, SamePair, LinkLabels, joins, linked_in, given_in}
 
 module _ {X : Type 0} (d : X) (xs : List X) (x : X) where
   -- a place of the longer list is one of the list, or the last
@@ -26,35 +28,37 @@ module _ {X : Type 0} (d : X) (xs : List X) (x : X) where
 
 -- the scan of the order
 pub given_none : (xs : List ℕ) (a : ℕ) → ((i : ℕ) → (i < length xs) × (get_or xs i 0 ≡ a) → ⊥) → given_in xs a ≡ false
-given_none [] a f = refl
-given_none (x ∷ xs) a f = or_from _ _ (ne_eqb x a (λ e. f 0 (omega arith, e))) (given_none xs a (λ i h. f (suc i) (omega (arith, h.0), h.1)))
+given_none xs a f = list_any_none (λ x. eqb x a) xs (All-from_get_or (λ x. eqb x a ≡ false) xs 0 (λ i h. ne_eqb (get_or xs i 0) a (λ e. f i (h, e))))
 
 pub given_not : (xs : List ℕ) (a : ℕ) → given_in xs a ≡ false → (i : ℕ) → i < length xs → get_or xs i 0 ≡ a → ⊥
-given_not [] a e i h = absurd (omega arith)
-given_not (x ∷ xs) a e zero h = eqb-false x a (or_parts _ _ e).0
-given_not (x ∷ xs) a e (suc i) h = given_not xs a (or_parts _ _ e).1 i (omega arith)
+given_not xs a e i h k = both_ways _ e (list_any_at (λ x. eqb x a) xs i 0 h (eq-eqb _ _ k))
 
-abbrev pairb : ℕ × ℕ → ℕ → ℕ → Bool
-pairb l a b = (eqb l.0 a && eqb l.1 b) || (eqb l.0 b && eqb l.1 a)
+pub joins_same : (a b x y : ℕ) → SamePair (x, y) (a, b) → joins a b (x, y) ≡ true
+joins_same a b x y (inl h) = both a b x y h.0 h.1 where
+  both : (a b x y : ℕ) → x ≡ a → y ≡ b → joins a b (x, y) ≡ true
+  both a b x y e f = grind (arith, nat_tests)
+joins_same a b x y (inr h) = both a b x y h.0 h.1 where
+  both : (a b x y : ℕ) → x ≡ b → y ≡ a → joins a b (x, y) ≡ true
+  both a b x y e f = grind (arith, nat_tests)
 
-pair_false : (x y a b : ℕ) → pairb (x, y) a b ≡ false → SamePair (x, y) (a, b) → ⊥
-pair_false x y a b e (inl h) = let z : pairb (x, y) a b ≡ true = grind (arith, nat_tests) in both_ways _ e z
-pair_false x y a b e (inr h) = let z : pairb (x, y) a b ≡ true = grind (arith, nat_tests) in both_ways _ e z
-
-pair_none : (x y a b : ℕ) → (SamePair (x, y) (a, b) → ⊥) → pairb (x, y) a b ≡ false
-pair_none x y a b f = let g : (x ≡ a) × (y ≡ b) → ⊥ = λ h. f (inl h) in let k : (x ≡ b) × (y ≡ a) → ⊥ = λ h. f (inr h) in none x y a b (λ p q. g (p, q)) (λ p q. k (p, q)) where
-  none : (x y a b : ℕ) → (x ≡ a → y ≡ b → ⊥) → (x ≡ b → y ≡ a → ⊥) → pairb (x, y) a b ≡ false
-  none x y a b f g = grind (arith, nat_tests)
+pub joins_none : (a b x y : ℕ) → (SamePair (x, y) (a, b) → ⊥) → joins a b (x, y) ≡ false
+joins_none a b x y f = none (λ e g. f (inl (e, g))) (λ e g. f (inr (e, g))) where
+  none : (x ≡ a → y ≡ b → ⊥) → (x ≡ b → y ≡ a → ⊥) → joins a b (x, y) ≡ false
+  none f g = grind (arith, nat_tests)
 
 -- the scan of the links
 pub linked_none : (xs : List (ℕ × ℕ)) (a b : ℕ) → ((i : ℕ) → i < length xs → SamePair (get_or xs i (0, 0)) (a, b) → ⊥) → linked_in xs a b ≡ false
-linked_none [] a b f = refl
-linked_none (x ∷ xs) a b f = or_from _ _ (pair_none x.0 x.1 a b (λ s. f 0 (omega arith) s)) (linked_none xs a b (λ i h. f (suc i) (omega arith)))
+linked_none xs a b f = list_any_none (joins a b) xs (All-from_get_or (λ l. joins a b l ≡ false) xs (0, 0) (λ i h. joins_none a b _ _ (f i h)))
 
 pub linked_not : (xs : List (ℕ × ℕ)) (a b : ℕ) → linked_in xs a b ≡ false → (i : ℕ) → i < length xs → SamePair (get_or xs i (0, 0)) (a, b) → ⊥
-linked_not [] a b e i h = absurd (omega arith)
-linked_not (x ∷ xs) a b e zero h = pair_false x.0 x.1 a b (or_parts _ _ e).0
-linked_not (x ∷ xs) a b e (suc i) h = linked_not xs a b (or_parts _ _ e).1 i (omega arith)
+linked_not xs a b e i h s = both_ways _ e (list_any_at (joins a b) xs i (0, 0) h (joins_same a b _ _ s))
+
+-- the test of a label
+pub label_test : (n a : ℕ) → IsLabel n a → is_label n a ≡ true
+label_test n a h = and_from _ _ (le-leb 1 a h.0) (le-leb a n h.1)
+
+pub label_from : (n a : ℕ) → is_label n a ≡ true → IsLabel n a
+label_from n a e = let h = and_parts _ _ e in (leb-true 1 a h.0, leb-true a n h.1)
 
 -- no link joins what is no label
 pub linked_outside : (n : ℕ) (links : List (ℕ × ℕ)) (a b : ℕ) → LinkLabels n links → (IsLabel n a × IsLabel n b → ⊥) → linked_in links a b ≡ false

@@ -1,62 +1,39 @@
 -- One word: what it tells where it is accepted, and that the rules go on to hold.
-use Rattle.std.proofs.Common.{◌≡◌, ℕ, ◌+◌, ◌<◌, ◌≤◌, Bool, true, false, cond, not, ◌&&◌, ◌||◌, eqb, ltb, leb, List, [], ◌∷◌, ◌++◌, length, Ok, Err, Result, sym, refl, ap, ◌∙◌, subst, ⊎_elim, arith}
+use Rattle.std.proofs.Common.{◌≡◌, ℕ, ◌+◌, ◌<◌, ◌≤◌, false, not, ◌&&◌, eqb, ltb, leb, List, [], ◌∷◌, ◌++◌, length, Ok, sym, refl, ap, ◌∙◌, subst, ⊎_elim, arith}
 use Rattle.std.specs.Result.{result_map_both}
 use Rattle.std.proofs.lemmas.List.{length_push, nil_from_length, map_push, append-nil, append_assoc}
-use Rattle.std.proofs.lemmas.Bool.{or_parts, and_cases, not-false, leb-false, ltb-false, eqb-true, eqb-false}
+use Rattle.std.proofs.lemmas.Bool.{and_cases, not-false, leb-false, ltb-false, eqb-true, eqb-false}
 use Rattle.sheet.specs.declared.records.Record.{Record}
 use Rattle.sheet.specs.declared.records.Record.TheVariants.{Pair, Turn}
-use Rattle.sheet.specs.declared.records.RecordFault.{RecordFault}
-use Rattle.sheet.specs.declared.records.RecordFault.TheVariants.{NoSuchLabel, SelfLink, LinkedTwice, OrderedTwice}
 use Rattle.sheet.specs.declared.reading.Phase.{Phase}
 use Rattle.sheet.specs.declared.reading.Phase.TheVariants.{Start, Body, Ended}
-use Rattle.sheet.specs.declared.reading.Fault.{Fault}
-use Rattle.sheet.specs.declared.reading.Fault.TheVariants.{LateLink, TooManyLinks, EndCount, OrderShort}
+use Rattle.sheet.specs.declared.reading.Fault.TheVariants.{InRecord}
 use Rattle.sheet.specs.declared.words.Word.{Word}
 use Rattle.sheet.specs.declared.words.Word.TheVariants.{Head, Link, Order, End}
-use Rattle.sheet.specs.Records.{and_then, checked, Fits}
+use Rattle.sheet.specs.Records.{labelled, checked, Fits}
 use Rattle.sheet.specs.Reading.{State, in_record, within, admitted, put, entered, begun, closed, in_phase, accepted, SoundIn, Sound}
-use Rattle.sheet.specs.Patterns.{Pattern, IsLabel, linked_in, given_in, SamePair, Rules}
+use Rattle.sheet.specs.Patterns.{Pattern, IsLabel, is_label, linked_in, given_in, SamePair, Rules}
 use Rattle.sheet.specs.Layouts.{link_words, order_words, sheet_words}
+use Rattle.sheet.proofs.Outcomes.{same, both_ok, mapped_ok, refuses_not, passes}
 use Rattle.sheet.proofs.Pigeons.{order_fits}
-use Rattle.sheet.proofs.Places.{each_push, pairs_push, given_not, linked_not}
+use Rattle.sheet.proofs.Places.{label_from, each_push, pairs_push, given_not, linked_not}
 
--- a fault is no success
-pub never : {X E : Type 0} (e : E) (x : X) → ◌≡◌ {A = Result X E} (Err e) (Ok x) → ⊥
-never e x h = let z : ◌≡◌ {A = ℕ} 0 1 = cc in omega arith
-
-pub same : {X E : Type 0} (x y : X) → ◌≡◌ {A = Result X E} (Ok x) (Ok y) → x ≡ y
-same x y h = cc
-
-label_from : (n a : ℕ) → (ltb a 1 || ltb n a) ≡ false → IsLabel n a
-label_from n a e = let h = or_parts _ _ e in (ltb-false a 1 h.0, ltb-false n a h.1)
-
--- a test that refuses
-abbrev refused : Bool → RecordFault → Result (Unit {0}) RecordFault
-refused x f = cond x (Err f) (Ok tt)
-
--- the tests of a link
-abbrev link_by : Bool → Bool → Bool → Bool → ℕ → Result (Unit {0}) RecordFault
-link_by x y z w p = and_then (refused x (NoSuchLabel p)) (λ _. and_then (refused y (NoSuchLabel p)) (λ _. cond z (Err (SelfLink p)) (refused w (LinkedTwice p))))
-
-link_by_lem : (x y z w : Bool) (p : ℕ) → link_by x y z w p ≡ Ok tt → (x ≡ false) × (y ≡ false) × (z ≡ false) × (w ≡ false)
-link_by_lem true y z w p e = absurd (never _ _ e)
-link_by_lem false true z w p e = absurd (never _ _ e)
-link_by_lem false false true w p e = absurd (never _ _ e)
-link_by_lem false false false true p e = absurd (never _ _ e)
-link_by_lem false false false false p e = (refl, refl, refl, refl)
+labelled_from : (n a p : ℕ) → labelled n a p ≡ Ok tt → IsLabel n a
+labelled_from n a p e = label_from n a (passes (is_label n a) _ _ tt e).0
 
 pub pair_checked : (s : Pattern) (a b p : ℕ) → checked s (Pair a b) p ≡ Ok tt → IsLabel s.n a × IsLabel s.n b × (a ≡ b → ⊥) × (linked_in s.links a b ≡ false)
 pair_checked s a b p e =
-    let h = link_by_lem (ltb a 1 || ltb s.n a) (ltb b 1 || ltb s.n b) (eqb a b) (linked_in s.links a b) p e in
-    (label_from s.n a h.0, label_from s.n b h.1, eqb-false a b h.2, h.3)
-
-order_by : (x y : Bool) (p : ℕ) → and_then (refused x (NoSuchLabel p)) (λ _. refused y (OrderedTwice p)) ≡ Ok tt → (x ≡ false) × (y ≡ false)
-order_by true y p e = absurd (never _ _ e)
-order_by false true p e = absurd (never _ _ e)
-order_by false false p e = (refl, refl)
+    let from = both_ok (labelled s.n a p) _ tt e in
+    let to = both_ok (labelled s.n b p) _ tt from.2 in
+    let apart = refuses_not (eqb a b) _ _ tt to.2 in
+    let new = refuses_not (linked_in s.links a b) _ _ tt apart.1 in
+    (labelled_from s.n a p from.1, labelled_from s.n b p to.1, eqb-false a b apart.0, new.0)
 
 pub turn_checked : (s : Pattern) (a p : ℕ) → checked s (Turn a) p ≡ Ok tt → IsLabel s.n a × (given_in s.order a ≡ false)
-turn_checked s a p e = let h = order_by (ltb a 1 || ltb s.n a) (given_in s.order a) p e in (label_from s.n a h.0, h.1)
+turn_checked s a p e =
+    let label = both_ok (labelled s.n a p) _ tt e in
+    let new = refuses_not (given_in s.order a) _ _ tt label.2 in
+    (labelled_from s.n a p label.1, new.0)
 
 -- what the acceptance of a link tells
 pub record Linking (s : Pattern) (a b : ℕ) : Type 0 where
@@ -67,37 +44,30 @@ pub record Linking (s : Pattern) (a b : ℕ) : Type 0 where
   pub apart : a ≡ b → ⊥
   pub new : linked_in s.links a b ≡ false
 
--- the tests of a link's place on the sheet
-abbrev admit_by : Bool → Bool → ℕ → Result (Unit {0}) Fault
-admit_by x y p = cond x (Err (LateLink p)) (cond y (Err (TooManyLinks p)) (Ok tt))
-
-admitted_by : (x y : Bool) (p : ℕ) → admit_by x y p ≡ Ok tt → (x ≡ false) × (y ≡ false)
-admitted_by true y p e = absurd (never _ _ e)
-admitted_by false true p e = absurd (never _ _ e)
-admitted_by false false p e = (refl, refl)
-
 -- the order is empty and there is room for a link
 pub pair_admitted : (s : Pattern) (a b p : ℕ) → admitted s (Pair a b) p ≡ Ok tt → (length s.order ≡ 0) × (length s.links < 4096)
-pair_admitted s a b p e = let h = admitted_by (not (eqb (length s.order) 0)) (leb 4096 (length s.links)) p e in (eqb-true _ _ (not-false _ h.0), leb-false _ _ h.1)
+pair_admitted s a b p e =
+    let unordered = refuses_not (not (eqb (length s.order) 0)) _ _ tt e in
+    let few = refuses_not (leb 4096 (length s.links)) _ _ tt unordered.1 in
+    (eqb-true _ _ (not-false _ unordered.0), leb-false _ _ few.0)
 
-added_by : (x y : Bool) (r : Result (Unit {0}) RecordFault) (p : ℕ) (u t : Pattern) → and_then (admit_by x y p) (λ _. and_then (in_record r) (λ _. Ok u)) ≡ Ok t → (x ≡ false) × (y ≡ false) × (r ≡ Ok tt) × (u ≡ t)
-added_by true y r p u t e = absurd (never _ _ e)
-added_by false true r p u t e = absurd (never _ _ e)
-added_by false false (Err f) p u t e = absurd (never _ _ e)
-added_by false false (Ok tt) p u t e = (refl, refl, refl, same _ _ e)
+-- a record that is entered was admitted and checked
+entered_by : (s : Pattern) (e : Record) (p : ℕ) (t : Pattern) → entered s e p ≡ Ok t → (admitted s e p ≡ Ok tt) × (checked s e p ≡ Ok tt) × (put s e ≡ t)
+entered_by s e p t h =
+    let k = both_ok (admitted s e p) _ t h in
+    let l = both_ok (in_record (checked s e p)) _ t k.2 in
+    let m = mapped_ok (λ x. x) InRecord (checked s e p) l.0 l.1 in
+    (k.1, m.1, same _ _ l.2)
 
 pub pair_entered : (s : Pattern) (a b p : ℕ) (t : Pattern) → entered s (Pair a b) p ≡ Ok t → Linking s a b × (put s (Pair a b) ≡ t)
 pair_entered s a b p t e =
-    let h = added_by (not (eqb (length s.order) 0)) (leb 4096 (length s.links)) (checked s (Pair a b) p) p (put s (Pair a b)) t e in
-    let k = pair_checked s a b p h.2 in
-    (record { unordered = eqb-true _ _ (not-false _ h.0); few = leb-false _ _ h.1; from = k.0; to = k.1; apart = k.2; new = k.3 }, h.3)
-
-then_by : (r : Result (Unit {0}) RecordFault) (u t : Pattern) → and_then (in_record r) (λ _. Ok u) ≡ Ok t → (r ≡ Ok tt) × (u ≡ t)
-then_by (Err f) u t e = absurd (never _ _ e)
-then_by (Ok tt) u t e = (refl, same _ _ e)
+    let h = entered_by s (Pair a b) p t e in
+    let room = pair_admitted s a b p h.0 in
+    let k = pair_checked s a b p h.1 in
+    (record { unordered = room.0; few = room.1; from = k.0; to = k.1; apart = k.2; new = k.3 }, h.2)
 
 pub turn_entered : (s : Pattern) (a p : ℕ) (t : Pattern) → entered s (Turn a) p ≡ Ok t → (IsLabel s.n a × (given_in s.order a ≡ false)) × (put s (Turn a) ≡ t)
-turn_entered s a p t e = let h = then_by (checked s (Turn a) p) (put s (Turn a)) t e in (turn_checked s a p h.0, h.1)
+turn_entered s a p t e = let h = entered_by s (Turn a) p t e in (turn_checked s a p h.1, h.2)
 
 pub rules_head : (n : ℕ) → IsLabel 512 n → Rules (record { n = n; links = []; order = [] })
 rules_head n h = record {
@@ -155,19 +125,11 @@ said s = said_in s.phase s.sheet
 abbrev pub Led : List Word → Word → ℕ → State → Type 0
 Led before w p t = Sound t (p + 1) × (said t ≡ before ++ w ∷ [])
 
-mapped_by : (r : Result Pattern Fault) (t : State) → result_map_both within (λ e. e) r ≡ Ok t → (x : Pattern) × (r ≡ Ok x) × (within x ≡ t)
-mapped_by (Err f) t e = absurd (never _ _ e)
-mapped_by (Ok x) t e = (x, refl, same _ _ e)
-
-head_by : (x : Bool) (u t : State) (f : Fault) → cond x (Err f) (Ok u) ≡ Ok t → (x ≡ false) × (u ≡ t)
-head_by true u t f e = absurd (never _ _ e)
-head_by false u t f e = (refl, same _ _ e)
-
 led_head : (s : State) (n p : ℕ) (t : State) → SoundIn Start s.sheet p → begun s n p ≡ Ok t → Led [] (Head n) p t
 led_head s n p t h e =
-    let k = head_by (ltb n 1 || ltb 512 n) _ t _ e in
+    let k = passes (is_label 512 n) _ _ t e in
     let start : Led [] (Head n) p (within (record { n = n; links = []; order = [] })) = ((rules_head n (label_from 512 n k.0), omega (arith, h.1)), refl) in
-    subst (Led [] (Head n) p) k.1 (subst (λ x. Led [] (Head n) p (within (record { n = n; links = x.links; order = x.order }))) (sym h.0) start)
+    subst (Led [] (Head n) p) (same _ _ k.1) (subst (λ x. Led [] (Head n) p (within (record { n = n; links = x.links; order = x.order }))) (sym h.0) start)
 
 said_link : (s : Pattern) (a b : ℕ) → length s.order ≡ 0 → said_in Body (put s (Pair a b)) ≡ said_in Body s ++ Link a b ∷ []
 said_link s a b e =
@@ -176,7 +138,7 @@ said_link s a b e =
 
 led_link : (s : Pattern) (a b p : ℕ) (t : State) → SoundIn Body s p → result_map_both within (λ e. e) (entered s (Pair a b) p) ≡ Ok t → Led (said_in Body s) (Link a b) p t
 led_link s a b p t h e =
-    let m = mapped_by _ t e in
+    let m = mapped_ok within (λ e. e) _ t e in
     let k = pair_entered s a b p m.0 m.1 in
     let place : p + 1 ≡ 1 + length (s.links ++ (a, b) ∷ []) + length s.order = simp length_push (omega (arith, h.1)) in
     subst (Led (said_in Body s) (Link a b) p) (ap within k.1 ∙ m.2) ((rules_link s a b h.0 k.0, place), said_link s a b k.0.unordered)
@@ -186,15 +148,10 @@ said_order s a = ap (λ l. Head s.n ∷ (link_words s.links ++ l)) (map_push (λ
 
 led_order : (s : Pattern) (a p : ℕ) (t : State) → SoundIn Body s p → result_map_both within (λ e. e) (entered s (Turn a) p) ≡ Ok t → Led (said_in Body s) (Order a) p t
 led_order s a p t h e =
-    let m = mapped_by _ t e in
+    let m = mapped_ok within (λ e. e) _ t e in
     let k = turn_entered s a p m.0 m.1 in
     let place : p + 1 ≡ 1 + length s.links + length (s.order ++ a ∷ []) = simp length_push (omega (arith, h.1)) in
     subst (Led (said_in Body s) (Order a) p) (ap within k.1 ∙ m.2) ((rules_order s a h.0 k.0.0 k.0.1, place), said_order s a)
-
-end_by : (x y : Bool) (p : ℕ) (u t : State) → cond x (Err (EndCount p)) (cond y (Err (OrderShort p)) (Ok u)) ≡ Ok t → (x ≡ false) × (y ≡ false) × (u ≡ t)
-end_by true y p u t e = absurd (never _ _ e)
-end_by false true p u t e = absurd (never _ _ e)
-end_by false false p u t e = (refl, refl, same _ _ e)
 
 whole_from : (n m : ℕ) → (not (eqb m 0) && ltb m n) ≡ false → m ≤ n → 0 < m → m ≡ n
 whole_from n m e l h = ⊎_elim (λ f. absurd (omega (arith, eqb-true m 0 (not-false (eqb m 0) f)))) (λ f. omega (arith, ltb-false m n f)) (and_cases (not (eqb m 0)) (ltb m n) e)
@@ -202,24 +159,22 @@ whole_from n m e l h = ⊎_elim (λ f. absurd (omega (arith, eqb-true m 0 (not-f
 led_end : (s : State) (count p : ℕ) (t : State) → SoundIn Body s.sheet p → length s.sheet.order ≤ s.sheet.n → closed s count p ≡ Ok t → Led (said_in Body s.sheet) (End count) p t
 led_end s count p t h fits e =
     let x = s.sheet in
-    let k = end_by (not (eqb count p)) (not (eqb (length x.order) 0) && ltb (length x.order) x.n) p _ t e in
-    let c : count ≡ 1 + length x.links + length x.order = eqb-true _ _ (not-false _ k.0) ∙ h.1 in
-    subst (Led (said_in Body x) (End count) p) k.2
-    ((record { rules = h.0; whole = whole_from x.n (length x.order) k.1 fits }, omega (arith, h.1)), ap (λ m. Head x.n ∷ (link_words x.links ++ (order_words x.order ++ End m ∷ []))) (sym c) ∙ ap (λ l. Head x.n ∷ l) (sym (append_assoc (link_words x.links) (order_words x.order) (End count ∷ []))))
+    let counted = refuses_not (not (eqb count p)) _ _ t e in
+    let whole = refuses_not (not (eqb (length x.order) 0) && ltb (length x.order) x.n) _ _ t counted.1 in
+    let c : count ≡ 1 + length x.links + length x.order = eqb-true _ _ (not-false _ counted.0) ∙ h.1 in
+    subst (Led (said_in Body x) (End count) p) (same _ _ whole.1)
+    ((record { rules = h.0; whole = whole_from x.n (length x.order) whole.0 fits }, omega (arith, h.1)), ap (λ m. Head x.n ∷ (link_words x.links ++ (order_words x.order ++ End m ∷ []))) (sym c) ∙ ap (λ l. Head x.n ∷ l) (sym (append_assoc (link_words x.links) (order_words x.order) (End count ∷ []))))
 
 led_in : (ph : Phase) (s : State) (w : Word) (p : ℕ) (t : State) → SoundIn ph s.sheet p → in_phase ph s w p ≡ Ok t → Led (said_in ph s.sheet) w p t
 led_in Start s (Head n) p t h e = led_head s n p t h e
-led_in Start s (Link a b) p t h e = absurd (never _ _ e)
-led_in Start s (Order a) p t h e = absurd (never _ _ e)
-led_in Start s (End count) p t h e = absurd (never _ _ e)
-led_in Body s (Head n) p t h e = absurd (never _ _ e)
+led_in Start s (Link a b) p t h e = absurd (cc)
+led_in Start s (Order a) p t h e = absurd (cc)
+led_in Start s (End count) p t h e = absurd (cc)
+led_in Body s (Head n) p t h e = absurd (cc)
 led_in Body s (Link a b) p t h e = led_link s.sheet a b p t h e
 led_in Body s (Order a) p t h e = led_order s.sheet a p t h e
 led_in Body s (End count) p t h e = led_end s count p t h (order_fits _ _ h.0.ordered h.0.ordered_once) e
-led_in Ended s (Head n) p t h e = absurd (never _ _ e)
-led_in Ended s (Link a b) p t h e = absurd (never _ _ e)
-led_in Ended s (Order a) p t h e = absurd (never _ _ e)
-led_in Ended s (End count) p t h e = absurd (never _ _ e)
+led_in Ended s w p t h e = absurd (cc)
 
 pub led : (s : State) (w : Word) (p : ℕ) (t : State) → Sound s p → accepted s w p ≡ Ok t → Led (said s) w p t
 led s w p t h e = led_in s.phase s w p t h e

@@ -1,3 +1,4 @@
+pub mod Drafts
 pub mod Faults
 pub mod Layouts
 pub mod Patterns

@@ -1,5 +1,6 @@
 -- What a sheet says, and the rules that it keeps.
-use Rattle.std.specs.Prelude.{◌≡◌, ℕ, ◌<◌, ◌≤◌, Bool, false, ◌&&◌, ◌||◌, ◌⊎◌, List, [], ◌∷◌, length, get_or, ◌==◌, slice_index, slice_index_or}
+use Rattle.std.specs.Prelude.{◌≡◌, ℕ, ◌<◌, ◌≤◌, Bool, ◌&&◌, ◌||◌, ◌⊎◌, List, length, get_or, ◌==◌, nat_le, slice_index, slice_index_or}
+use Rattle.std.specs.List.{list_any}
 
 -- the number of nodes, the links and the order labels, as they stand on a sheet
 pub record Pattern : Type 0 where
@@ -11,15 +12,21 @@ pub record Pattern : Type 0 where
 abbrev pub IsLabel : ℕ → ℕ → Type 0
 IsLabel n a = (1 ≤ a) × (a ≤ n)
 
--- whether one of the links joins a and b, whichever stands first
+-- the same as a test
+abbrev pub is_label : ℕ → ℕ → Bool
+is_label n a = nat_le 1 a && nat_le a n
+
+-- whether a link joins a and b, whichever stands first
+abbrev pub joins : ℕ → ℕ → ℕ × ℕ → Bool
+joins a b l = (l.0 == a && l.1 == b) || (l.0 == b && l.1 == a)
+
+-- whether one of the links does
 abbrev pub linked_in : List (ℕ × ℕ) → ℕ → ℕ → Bool
-linked_in [] a b = false
-linked_in (l ∷ ls) a b = ((l.0 == a && l.1 == b) || (l.0 == b && l.1 == a)) || linked_in ls a b
+linked_in links a b = list_any (joins a b) links
 
 -- whether a is one of the order labels
 abbrev pub given_in : List ℕ → ℕ → Bool
-given_in [] a = false
-given_in (x ∷ xs) a = x == a || given_in xs a
+given_in order a = list_any (λ x. x == a) order
 
 -- the same two labels, whichever stands first
 abbrev pub SamePair : ℕ × ℕ → ℕ × ℕ → Type 0

@@ -1,5 +1,5 @@
 -- The sheet layer: the words of a sheet in turn.
-use Rattle.std.specs.Prelude.{◌≡◌, ℕ, ◌+◌, cond, not, ◌&&◌, ◌||◌, List, [], ◌∷◌, ◌++◌, length, Ok, Err, Result, ◌==◌, nat_le, nat_lt}
+use Rattle.std.specs.Prelude.{◌≡◌, ℕ, ◌+◌, cond, not, ◌&&◌, List, [], ◌∷◌, ◌++◌, length, Ok, Err, Result, ◌==◌, nat_le, nat_lt}
 use Rattle.std.specs.Result.{result_map_both}
 use Rattle.sheet.specs.declared.reading.Fault.{Fault}
 use Rattle.sheet.specs.declared.reading.Fault.TheVariants.{InRecord, NoHead, HeadCount, SecondHead, LateLink, AfterEnd, TooManyLinks, EndCount, NoEnd, OrderShort}
@@ -13,7 +13,7 @@ use Rattle.sheet.specs.declared.words.Word.{Word}
 use Rattle.sheet.specs.declared.words.Word.TheVariants.{Head, Link, Order, End}
 use Rattle.sheet.specs.declared.words.WordFault.{WordFault}
 use Rattle.sheet.specs.declared.words.WordFault.TheVariants.{Cut}
-use Rattle.sheet.specs.Patterns.{Pattern, Rules, Lawful}
+use Rattle.sheet.specs.Patterns.{Pattern, is_label, Rules, Lawful}
 use Rattle.sheet.specs.Records.{and_then, checked}
 use Rattle.sheet.specs.Words.{word, decoded}
 
@@ -52,7 +52,7 @@ within s = record { phase = Body; sheet = s }
 
 -- the head at place p, which counts n nodes
 abbrev pub begun : State → ℕ → ℕ → Result State Fault
-begun s n p = cond (nat_lt n 1 || nat_lt 512 n) (Err (HeadCount p)) (Ok (within (record { n = n; links = s.sheet.links; order = s.sheet.order })))
+begun s n p = cond (is_label 512 n) (Ok (within (record { n = n; links = s.sheet.links; order = s.sheet.order }))) (Err (HeadCount p))
 
 -- the end word at place p, with its count
 abbrev pub closed : State → ℕ → ℕ → Result State Fault

@@ -1,12 +1,12 @@
 -- The record layer: words, and the labels that they give.
-use Rattle.std.specs.Prelude.{ℕ, ◌<◌, cond, ◌||◌, List, length, Ok, Err, Option, Result, ◌==◌, nat_lt}
+use Rattle.std.specs.Prelude.{ℕ, ◌<◌, cond, List, length, Ok, Err, Option, Result, ◌==◌}
 use Rattle.std.specs.Result.{result_map_both}
 use Rattle.sheet.specs.declared.words.Word.{Word}
 use Rattle.sheet.specs.declared.records.Record.{Record}
 use Rattle.sheet.specs.declared.records.Record.TheVariants.{Pair, Turn}
 use Rattle.sheet.specs.declared.records.RecordFault.{RecordFault}
 use Rattle.sheet.specs.declared.records.RecordFault.TheVariants.{InWord, NoSuchLabel, SelfLink, LinkedTwice, OrderedTwice}
-use Rattle.sheet.specs.Patterns.{Pattern, IsLabel, linked_in, given_in}
+use Rattle.sheet.specs.Patterns.{Pattern, IsLabel, is_label, linked_in, given_in}
 use Rattle.sheet.specs.Words.{next_word}
 
 -- the next word, whose faults are record faults here
@@ -20,7 +20,7 @@ and_then (Err e) f = Err e
 
 -- a label of n nodes, at place p
 abbrev pub labelled : ℕ → ℕ → ℕ → Result (Unit {0}) RecordFault
-labelled n a p = cond (nat_lt a 1 || nat_lt n a) (Err (NoSuchLabel p)) (Ok tt)
+labelled n a p = cond (is_label n a) (Ok tt) (Err (NoSuchLabel p))
 
 -- whether the labels of a record at place p may follow what the sheet says so far
 abbrev pub checked : Pattern → Record → ℕ → Result (Unit {0}) RecordFault

@@ -1,10 +1,10 @@
 -- What the code's values say, as the definitions of the reading have it.
-use Rattle.std.specs.Prelude.{vec_items, Result}
+use Rattle.std.specs.Prelude.{Result}
 use Rattle.std.specs.Result.{result_map_both}
-use Rattle.sheet.specs.declared.drafts.Draft.{Draft}
 use Rattle.sheet.specs.declared.reading.Fault.{Fault}
 use Rattle.sheet.specs.declared.reading.Reader.{Reader}
 use Rattle.sheet.specs.declared.sheets.Sheet.{Sheet}
+use Rattle.sheet.specs.Drafts.{drafted}
 use Rattle.sheet.specs.Patterns.{Pattern}
 use Rattle.sheet.specs.Reading.{State}
 
@@ -13,10 +13,7 @@ abbrev pub told : {X Y : Type 0} → Result X Fault → (X → Y) → Result Y F
 told r view = result_map_both view (λ e. e) r
 
 abbrev pub pattern_of : Sheet → Pattern
-pattern_of s = record { n = s.n; links = vec_items s.links; order = vec_items s.order }
-
-abbrev pub drafted : Draft → Pattern
-drafted d = record { n = d.n; links = vec_items d.links; order = vec_items d.order }
+pattern_of s = drafted s.draft
 
 abbrev pub state_of : Reader → State
 state_of r = record { phase = r.phase; sheet = drafted r.draft }

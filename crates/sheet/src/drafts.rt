@@ -4,6 +4,12 @@ ghost use Rattle.sheet.specs.Tables.{Shows};
 
 use crate::table::LinkTable;
 
+/// The nodes that a sheet may have at most.
+pub(crate) const MOST_NODES: u16 = 512;
+
+/// The links that a sheet may have at most.
+pub(crate) const MOST_LINKS: usize = 4096;
+
 /// What the words so far say, with room for what the others may.
 #[derive(Drop)]
 pub(crate) struct Draft {

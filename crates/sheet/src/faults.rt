@@ -15,6 +15,7 @@ pub enum Layer {
     Sheets,
 }
 
+// The numbers are fixed by the project's rules, in which some faults share one.
 impl WordFault {
     pub(crate) fn number(self) -> u8
         ensures { result ≡ word_number self }
@@ -113,6 +114,7 @@ impl Fault {
 }
 
 impl Layer {
+    // A function and no Display: a name is part of a line, and one that writes itself would be no plainer in it.
     pub fn name(self) -> &'static str
         ensures { result.now ≡ layer_text self }
     {

@@ -1,21 +1,22 @@
 //! The sheet layer: the words of a sheet in turn, from the head to the end.
-ghost use Rattle.std.specs.Prelude.{◌≡◌, ◌<◌, length};
+ghost use Rattle.std.specs.Prelude.{◌≡◌, ◌+◌, ◌<◌, length, IfOk};
 ghost use Rattle.sheet.specs.Patterns.{Rules, Lawful};
 ghost use Rattle.sheet.specs.Layouts.{Reads, ReadsLayouts, OneSheet, ReadsFront};
 ghost use Rattle.sheet.specs.Records.{Fits};
-ghost use Rattle.sheet.specs.Reading.{admitted, put, entered, empty, begun, closed, accepted, finished, read_sheet, Sound};
-ghost use Rattle.sheet.specs.Views.{told, drafted, pattern_of, state_of};
+ghost use Rattle.sheet.specs.Reading.{admitted, put, entered, blank, begun, closed, accepted, finished, read_sheet, Sound};
+ghost use Rattle.sheet.specs.Drafts.{drafted};
+ghost use Rattle.sheet.specs.Views.{told, pattern_of, state_of};
 ghost use Rattle.sheet.specs.declared.reading.Fault.TheVariants.{InRecord};
 
-use crate::drafts::Draft;
-use crate::records::{Record, RecordFault, next_record};
+use crate::drafts::{Draft, MOST_LINKS, MOST_NODES};
+use crate::records::{Record, RecordFault, is_label, next_record};
 use crate::room::Room;
 use crate::sheets::Sheet;
 use crate::words::Word;
 
 /// Why some bytes are no sheet: a fault of a record, or a word that may not stand where it does. Each case holds its
 /// place: the word's index, or the number of words where the next one is missing.
-#[derive(Clone, Copy)]
+#[derive(Clone, Copy, PartialEq, Eq, Debug)]
 pub enum Fault {
     InRecord(RecordFault),
     NoHead(usize),
@@ -38,46 +39,30 @@ impl From<RecordFault> for Fault {
 }
 
 /// How far the reading of a sheet has come.
-#[derive(Clone, Copy)]
+#[derive(Clone, Copy, PartialEq, Eq, Debug)]
 pub(crate) enum Phase {
     Start,
     Body,
     Ended,
 }
 
+/// What the words so far have led to, and the place of the next one.
 #[derive(Drop)]
 struct Reader {
     phase: Phase,
     draft: Draft,
+    at: usize,
 }
 
 impl Draft {
-    fn new(room: Room) -> Draft
-        ensures { drafted result ≡ empty }
-    {
-        Draft {
-            n: 0,
-            links: room.links,
-            order: room.order,
-            table: room.table,
-        }
-    }
-
     /// Refuses a link that comes after an order word or after 4,096 links.
     fn admit(&self, item: Record, at: usize) -> Result<(), Fault>
         ensures { result ≡ admitted (drafted self.now) item at }
     {
         match item {
-            Record::Pair(_, _) => {
-                if !self.order.is_empty() {
-                    return Err(Fault::LateLink(at));
-                }
-                if self.links.len() >= 4096 {
-                    return Err(Fault::TooManyLinks(at));
-                }
-                Ok(())
-            }
-            Record::Turn(_) => Ok(()),
+            Record::Pair(_, _) if !self.order.is_empty() => Err(Fault::LateLink(at)),
+            Record::Pair(_, _) if self.links.len() >= MOST_LINKS => Err(Fault::TooManyLinks(at)),
+            _ => Ok(()),
         }
     }
 
@@ -105,74 +90,78 @@ impl Draft {
         self.put(item);
         Ok(())
     }
-
-    /// The sheet, whose words have all been read.
-    fn seal(self) -> Sheet
-        requires { Lawful (drafted self) }
-        ensures { pattern_of result ≡ drafted self }
-    {
-        Sheet {
-            n: self.n,
-            links: self.links,
-            order: self.order,
-            table: self.table,
-        }
-    }
 }
 
 impl Reader {
-    /// The head at place `at`, which counts `n` nodes.
-    fn begin(&mut self, n: u16, at: usize) -> Result<(), Fault>
-        ensures { told result (λ _. state_of self.new) ≡ begun (state_of self.old) n at }
+    /// A reader that no word has come to yet.
+    fn new(room: Room) -> Reader
+        ensures state { state_of result ≡ blank }
+        ensures place { result.at ≡ 0 }
     {
-        if n < 1 || 512 < n {
-            return Err(Fault::HeadCount(at));
+        Reader {
+            phase: Phase::Start,
+            draft: room.draft,
+            at: 0,
+        }
+    }
+
+    /// The head, which counts `n` nodes.
+    fn begin(&mut self, n: u16) -> Result<(), Fault>
+        ensures state { told result (λ _. state_of self.new) ≡ begun (state_of self.old) n self.old.at }
+        ensures place { self.new.at ≡ self.old.at }
+    {
+        if !is_label(MOST_NODES, n) {
+            return Err(Fault::HeadCount(self.at));
         }
         self.draft.n = n;
         self.phase = Phase::Body;
         Ok(())
     }
 
-    /// The end word at place `at`, which counts `count` words before it.
-    fn close(&mut self, count: u32, at: usize) -> Result<(), Fault>
-        ensures { told result (λ _. state_of self.new) ≡ closed (state_of self.old) count at }
+    /// The end word, which counts `count` words before it.
+    fn close(&mut self, count: u32) -> Result<(), Fault>
+        ensures state { told result (λ _. state_of self.new) ≡ closed (state_of self.old) count self.old.at }
+        ensures place { self.new.at ≡ self.old.at }
     {
-        if count as usize != at {
-            return Err(Fault::EndCount(at));
+        if count as usize != self.at {
+            return Err(Fault::EndCount(self.at));
         }
         let given = self.draft.order.len();
         if given != 0 && given < self.draft.n as usize {
-            return Err(Fault::OrderShort(at));
+            return Err(Fault::OrderShort(self.at));
         }
         self.phase = Phase::Ended;
         Ok(())
     }
 
-    /// Takes the word at place `at`.
-    fn accept(&mut self, word: Word, at: usize) -> Result<(), Fault>
-        requires { Sound (state_of self.old) at }
-        ensures { told result (λ _. state_of self.new) ≡ accepted (state_of self.old) word at }
+    /// Takes the next word.
+    fn accept(&mut self, word: Word) -> Result<(), Fault>
+        requires { Sound (state_of self.old) self.old.at }
+        ensures state { told result (λ _. state_of self.new) ≡ accepted (state_of self.old) word self.old.at }
+        ensures place { IfOk result (λ _. self.new.at ≡ self.old.at + 1) }
     {
         match (self.phase, word) {
-            (Phase::Start, Word::Head(n)) => self.begin(n, at),
-            (Phase::Start, _) => Err(Fault::NoHead(at)),
-            (Phase::Body, Word::Head(_)) => Err(Fault::SecondHead(at)),
-            (Phase::Body, Word::Link(a, b)) => self.draft.enter(Record::Pair(a, b), at),
-            (Phase::Body, Word::Order(a)) => self.draft.enter(Record::Turn(a), at),
-            (Phase::Body, Word::End(count)) => self.close(count, at),
-            (Phase::Ended, _) => Err(Fault::AfterEnd(at)),
+            (Phase::Start, Word::Head(n)) => self.begin(n)?,
+            (Phase::Start, _) => return Err(Fault::NoHead(self.at)),
+            (Phase::Body, Word::Head(_)) => return Err(Fault::SecondHead(self.at)),
+            (Phase::Body, Word::Link(a, b)) => self.draft.enter(Record::Pair(a, b), self.at)?,
+            (Phase::Body, Word::Order(a)) => self.draft.enter(Record::Turn(a), self.at)?,
+            (Phase::Body, Word::End(count)) => self.close(count)?,
+            (Phase::Ended, _) => return Err(Fault::AfterEnd(self.at)),
         }
+        self.at += 1;
+        Ok(())
     }
 
-    /// What the words give, of which there were `at`.
-    fn finish(self, at: usize) -> Result<Sheet, Fault>
-        requires { Sound (state_of self) at }
-        ensures { told result pattern_of ≡ finished (state_of self) at }
+    /// What the words give, where no other follows.
+    fn finish(self) -> Result<Sheet, Fault>
+        requires { Sound (state_of self) self.at }
+        ensures { told result pattern_of ≡ finished (state_of self) self.at }
     {
         match self.phase {
-            Phase::Start => Err(Fault::NoHead(at)),
-            Phase::Body => Err(Fault::NoEnd(at)),
-            Phase::Ended => Ok(self.draft.seal()),
+            Phase::Start => Err(Fault::NoHead(self.at)),
+            Phase::Body => Err(Fault::NoEnd(self.at)),
+            Phase::Ended => Ok(Sheet { draft: self.draft }),
         }
     }
 }
@@ -185,16 +174,12 @@ pub fn read(room: Room, bytes: &[u8]) -> Result<Sheet, Fault>
     ensures one { OneSheet }
     ensures front { ReadsFront }
 {
-    let mut reader = Reader {
-        phase: Phase::Start,
-        draft: Draft::new(room),
-    };
+    let mut reader = Reader::new(room);
     let mut rest = bytes;
-    let mut at = 0;
-    while let Some((word, after)) = next_record(rest, at)? {
-        reader.accept(word, at)?;
+    // The reader has the place for faults of its own, so an iterator over the words would count it a second time.
+    while let Some((word, after)) = next_record(rest, reader.at)? {
+        reader.accept(word)?;
         rest = after;
-        at += 1;
     }
-    reader.finish(at)
+    reader.finish()
 }

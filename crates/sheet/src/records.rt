@@ -1,16 +1,16 @@
 //! The record layer: what a word adds to a sheet, and whether its labels may stand there.
 ghost use Rattle.std.specs.Prelude.{◌≡◌};
 ghost use Rattle.sheet.specs.Words.{seen};
-ghost use Rattle.sheet.specs.Patterns.{given_in};
+ghost use Rattle.sheet.specs.Patterns.{is_label};
 ghost use Rattle.sheet.specs.Records.{next_record, labelled, checked};
-ghost use Rattle.sheet.specs.Views.{drafted};
+ghost use Rattle.sheet.specs.Drafts.{drafted};
 ghost use Rattle.sheet.specs.declared.records.RecordFault.TheVariants.{InWord};
 
 use crate::drafts::Draft;
 use crate::words::{Word, WordFault, next_word};
 
 /// What a word adds to a sheet.
-#[derive(Clone, Copy)]
+#[derive(Clone, Copy, PartialEq, Eq, Debug)]
 pub enum Record {
     /// Two labels to link.
     Pair(u16, u16),
@@ -19,7 +19,7 @@ pub enum Record {
 }
 
 /// A fault of a word, or a label that may not stand where it does; each case holds the word's index.
-#[derive(Clone, Copy)]
+#[derive(Clone, Copy, PartialEq, Eq, Debug)]
 pub enum RecordFault {
     InWord(WordFault),
     NoSuchLabel(usize),
@@ -28,6 +28,7 @@ pub enum RecordFault {
     OrderedTwice(usize),
 }
 
+// By hand, here and above: a derived From would not say in which case the fault ends up.
 impl From<WordFault> for RecordFault {
     ghost from_gives = { λ e r. r ≡ InWord e };
 
@@ -43,26 +44,21 @@ pub fn next_record(bytes: &[u8], at: usize) -> Result<Option<(Word, &[u8])>, Rec
     Ok(next_word(bytes, at)?)
 }
 
+/// Whether a label is one of n nodes.
+pub(crate) fn is_label(n: u16, label: u16) -> bool
+    ensures { result ≡ is_label n label }
+{
+    (1..=n).contains(&label)
+}
+
 /// Refuses a label that isn't one of 1 to n.
 fn check_label(n: u16, label: u16, at: usize) -> Result<(), RecordFault>
     ensures { result ≡ labelled n label at }
 {
-    if label < 1 || n < label {
+    if !is_label(n, label) {
         return Err(RecordFault::NoSuchLabel(at));
     }
     Ok(())
-}
-
-/// Whether the label is among those of the order.
-fn given(order: &[u16], label: u16) -> bool
-    ensures { result ≡ given_in order.now label }
-{
-    for x in order {
-        if *x == label {
-            return true;
-        }
-    }
-    false
 }
 
 impl Draft {
@@ -84,7 +80,7 @@ impl Draft {
             }
             Record::Turn(a) => {
                 check_label(self.n, a, at)?;
-                if given(self.order.as_slice(), a) {
+                if self.order.contains(&a) {
                     return Err(RecordFault::OrderedTwice(at));
                 }
                 Ok(())

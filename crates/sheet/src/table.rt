@@ -1,11 +1,16 @@
 //! Which labels are linked, as a table, so that no look-up goes through the links.
 ghost use Rattle.std.specs.Prelude.{◌≡◌, ℕ, List, [], ◌∷◌, ◌++◌, IfOk, vec_len};
 ghost use Rattle.sheet.specs.Patterns.{IsLabel, linked_in};
-ghost use Rattle.sheet.specs.Tables.{Shows};
+ghost use Rattle.sheet.specs.Tables.{cell_of, Shows};
 
+use crate::drafts::MOST_NODES;
 use std::alloc::{AllocError, Global};
 
+/// The cells of a row, and the rows.
+const SIDE: usize = MOST_NODES as usize;
+
 /// 512 rows of 512 cells: the labels a and b are linked where the cell in row a - 1 and column b - 1 is set.
+// One vector of cells: of rows as arrays `as_flattened` would lend them too, but its proof lacks the rows' lengths.
 #[derive(Drop)]
 pub(crate) struct LinkTable {
     cells: Vec<bool>,
@@ -17,7 +22,7 @@ impl LinkTable {
     pub(crate) fn reserve(heap: Global) -> Result<LinkTable, AllocError>
         ensures { IfOk result (λ t. Shows [] t.cells.items) }
     {
-        let cells = vec![in heap; false; 262144]?;
+        let cells = vec![in heap; false; SIDE * SIDE]?;
         Ok(LinkTable { cells })
     }
 
@@ -28,12 +33,13 @@ impl LinkTable {
         self.cells.as_slice()
     }
 
+    // That both are labels stays a clause of three: a pair of labels as a type would be made and taken apart at each call.
     /// Whether the labels a and b are linked.
     pub(crate) fn linked(&self, a: u16, b: u16) -> bool
         requires { IsLabel 512 a × IsLabel 512 b }
         ensures { (links : List (ℕ × ℕ)) → Shows links self.now.cells.items → result ≡ linked_in links a b }
     {
-        self.cells[(a as usize - 1) * 512 + (b as usize - 1)]
+        self.cells[cell(a, b)]
     }
 
     /// Links the labels a and b.
@@ -41,9 +47,15 @@ impl LinkTable {
         requires { IsLabel 512 a × IsLabel 512 b }
         ensures { (links : List (ℕ × ℕ)) → Shows links self.old.cells.items → Shows (links ++ (a, b) ∷ []) self.new.cells.items }
     {
-        let row = a as usize - 1;
-        let column = b as usize - 1;
-        self.cells[row * 512 + column] = true;
-        self.cells[column * 512 + row] = true;
+        self.cells[cell(a, b)] = true;
+        self.cells[cell(b, a)] = true;
     }
+}
+
+/// The place of the cell in row a - 1 and column b - 1.
+fn cell(a: u16, b: u16) -> usize
+    requires { IsLabel 512 a × IsLabel 512 b }
+    ensures { result ≡ cell_of a b }
+{
+    (a as usize - 1) * SIDE + (b as usize - 1)
 }

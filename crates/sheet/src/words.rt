@@ -3,7 +3,7 @@ ghost use Rattle.std.specs.Prelude.{◌≡◌};
 ghost use Rattle.sheet.specs.Words.{decoded, next_word, seen};
 
 /// A word by its kind, with the fields that it holds.
-#[derive(Clone, Copy)]
+#[derive(Clone, Copy, PartialEq, Eq, Debug)]
 pub enum Word {
     /// The number of nodes.
     Head(u16),
@@ -16,13 +16,14 @@ pub enum Word {
 }
 
 /// What is wrong with the bytes of one word; each case holds the word's index.
-#[derive(Clone, Copy)]
+#[derive(Clone, Copy, PartialEq, Eq, Debug)]
 pub enum WordFault {
     Cut(usize),
     UnknownKind(usize),
     SpareBits(usize),
 }
 
+// A place goes with each item to where its fault is made, and the fault keeps it on the way up: a rule of the project.
 /// What the 32 bits of the word at place `at` say.
 pub fn decode(bits: u32, at: usize) -> Result<Word, WordFault>
     ensures { result ≡ decoded bits at }

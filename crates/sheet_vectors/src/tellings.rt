@@ -1,6 +1,7 @@
 //! Words, and what is told of them.
 
 /// Words, the bytes of a word that is cut off after them, and the text that tells of them.
+// Names of the three fields in each of 20 rows would be no plainer.
 #[derive(Clone, Copy)]
 pub struct Telling(pub &'static [u32], pub &'static [u8], pub &'static str);
 

@@ -1,8 +1,7 @@
 //! Each vector is read, and told of, as its table says.
 use crate::built::{most_links, packed, whole_order};
-use crate::outcomes::Outcome::{Held, Refused};
-use crate::outcomes::outcome_of;
-use crate::tellings::TELLINGS;
+use crate::outcomes::{Counts, Told, outcome_of};
+use crate::tellings::{TELLINGS, Telling};
 use crate::vectors::{AFTER_MOST_LINKS, DOUBLE, SINGLE, Vector};
 use report::accounts::Account;
 use report::refusals::Refusal;
@@ -20,8 +19,7 @@ fn check_each(
     before: &[u32],
     vectors: &[Vector],
 ) -> Result<(), Fail> {
-    for vector in vectors {
-        let Vector(name, words, tail, outcome) = *vector;
+    for &Vector(name, words, tail, outcome) in vectors {
         let mut bytes = packed(heap, before)?;
         bytes.extend_from_slice(packed(heap, words)?.as_slice())?;
         bytes.extend_from_slice(tail)?;
@@ -53,7 +51,11 @@ fn largest_sheet(rt: HostRuntime) -> Result<(), Fail> {
     assert_eq!(rt; bytes.len(), 18_440);
     assert_eq!(rt;
         outcome_of(Room::reserve(heap)?, bytes.as_slice()),
-        Held(512, 4096, 512)
+        Ok(Counts {
+            nodes: 512,
+            links: 4096,
+            order: 512,
+        })
     );
     Ok(())
 }
@@ -69,7 +71,11 @@ fn largest_sheet_and_a_link(rt: HostRuntime) -> Result<(), Fail> {
     assert_eq!(rt; bytes.len(), 18_444);
     assert_eq!(rt;
         outcome_of(Room::reserve(heap)?, bytes.as_slice()),
-        Refused(6, Sheets, 4097)
+        Err(Told {
+            number: 6,
+            layer: Sheets,
+            place: 4097,
+        })
     );
     let text = told(heap, bytes.as_slice())?;
     assert_eq!(rt;
@@ -90,10 +96,10 @@ fn told(heap: Global, bytes: &[u8]) -> Result<String, AllocError> {
 #[test]
 fn tellings(rt: HostRuntime) -> Result<(), Fail> {
     let heap = rt.alloc();
-    for telling in &TELLINGS {
-        let mut bytes = packed(heap, telling.0)?;
-        bytes.extend_from_slice(telling.1)?;
-        assert_eq!(rt; told(heap, bytes.as_slice())?.as_str(), telling.2);
+    for &Telling(words, tail, text) in &TELLINGS {
+        let mut bytes = packed(heap, words)?;
+        bytes.extend_from_slice(tail)?;
+        assert_eq!(rt; told(heap, bytes.as_slice())?.as_str(), text);
     }
     Ok(())
 }

@@ -7,6 +7,7 @@ ghost use Rattle.plan.specs.Views.{arrays_of};
 ghost use Rattle.listing.specs.Texts.{listing_text};
 ghost use Rattle.siteplan.specs.Sites.{site_plan};
 
+use intake::first_bytes;
 use listing::faults::SiteFault;
 use listing::listings::{listing, listing_length};
 use plan::making::make;
@@ -14,19 +15,8 @@ use plan::plans::Plan;
 use plan::rules::LeastDegree;
 use sheet::reading::read;
 use std::alloc::{AllocError, Global};
-use std::io;
-use std::io::{Read, Write};
+use std::io::Write;
 use std::process::ExitCode;
-
-/// The longest sheet and one word more: no later byte changes what is read.
-const MOST_BYTES: u64 = 18_444;
-
-/// The bytes of standard input, as far as they matter.
-fn input(rt: &HostRuntime) -> io::Result<Vec<u8>> {
-    let mut bytes = Vec::new(rt.alloc());
-    rt.stdin().take(MOST_BYTES).read_to_end(&mut bytes)?;
-    Ok(bytes)
-}
 
 /// The plan of a sheet by least degree, or why there is none.
 fn plan_of(
@@ -51,29 +41,21 @@ fn listing_of(heap: Global, plan: &Plan) -> Result<Vec<u8>, AllocError>
     Ok(text)
 }
 
-/// Whether the input has a plan, once its listing or the line of its fault is printed.
-fn run(rt: &HostRuntime) -> anyhow::Result<bool> {
+/// Prints the listing of the input's plan, or the line of its fault. A refusal is told on standard output: it ends with status 1
+/// and no word on standard error.
+fn main(rt: HostRuntime) -> anyhow::Result<ExitCode> {
     let sheet_room = sheet::room::Room::reserve(rt.alloc())?;
     let plan_room = plan::room::Room::reserve(rt.alloc())?;
-    let input = input(rt)?;
+    let input = first_bytes(rt.alloc(), rt.stdin())?;
     match plan_of(sheet_room, plan_room, input.as_slice()) {
         Ok(plan) => {
             let text = listing_of(rt.alloc(), &plan)?;
             rt.stdout().write_all(text.as_slice())?;
-            Ok(true)
+            Ok(ExitCode::SUCCESS)
         }
         Err(fault) => {
             rt.println(fault)?;
-            Ok(false)
+            Ok(ExitCode::FAILURE)
         }
-    }
-}
-
-// A refusal is told on standard output: it ends with status 1 and no word on standard error.
-fn main(rt: HostRuntime) -> anyhow::Result<ExitCode> {
-    if run(&rt)? {
-        Ok(ExitCode::SUCCESS)
-    } else {
-        Ok(ExitCode::FAILURE)
     }
 }

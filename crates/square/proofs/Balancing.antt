@@ -1,23 +1,22 @@
 -- The levels of an accepted solve balance what stood entered at the last elimination that was done.
-use Rattle.std.proofs.Common.{◌≡◌, ℕ, ◌-◌, ◌≤◌, Bool, true, cond, not, ◌&&◌, eqb, List, [], ◌∷◌, length, get_or, Some, None, Option, sym, refl, ap, ◌∙◌, ap₂, arith}
+use Rattle.std.proofs.Common.{◌≡◌, ℕ, ◌-◌, ◌≤◌, Bool, cond, ◌&&◌, List, [], ◌∷◌, length, get_or, Some, None, Ok, Option, Result, sym, refl, ap, ◌∙◌, ap₂, arith}
 use Rattle.std.proofs.lemmas.List.FromFn.{get_or-map-range_with_len}
-use Rattle.std.proofs.lemmas.Bool.{not-false, false≢true}
+use Rattle.std.proofs.lemmas.Bool.Decides.{nat_tests}
+use Rattle.std.specs.Result.{is_ok}
 use Rattle.arith.specs.Fields.{Ring, Field}
 use Rattle.arith.specs.Operations.{Solvers}
 use Rattle.plan.specs.Planned.{Arrays, Keeps}
 use Rattle.square.specs.declared.calls.Call.TheVariants.{Clear, Set, Eliminate, Read, Tally}
 use Rattle.square.specs.declared.refusals.Refusal.{Refusal}
-use Rattle.square.specs.declared.refusals.Refusal.TheVariants.{NotCleared, WrongLength, NotWorked}
 use Rattle.square.specs.declared.standings.Standing.{Standing}
 use Rattle.square.specs.declared.standings.Standing.TheVariants.{Bare, Cleared, Stuck, Worked}
-use Rattle.square.specs.Balance.{Balances, is_eliminate, is_done, eliminated_last, between, of_label}
-use Rattle.square.specs.Calls.{SolvingCall, SolvingAnswer, is_bare, is_worked, clear_refusal, set_refusal, eliminate_refusal, read_refusal, solve_refusal, standing_after, answer_after, unless, solve_unless, solving_called, lived, levels, by_position}
+use Rattle.square.specs.Balance.{Balances, is_eliminate, eliminated_last}
+use Rattle.square.specs.Calls.{SolvingCall, SolvingAnswer, solve_refusal, between, unless, solving_called, lived, levels, of_label, by_position}
 use Rattle.square.specs.Elimination.{eliminated}
 use Rattle.square.specs.Plans.{site_of, store_of}
 use Rattle.square.specs.Solution.{Vector, solution}
 use Rattle.square.specs.Squares.{Matrix, Site, Lengths, Square, bare}
 use Rattle.square.specs.Stores.{Closes}
-use Rattle.square.proofs.Lives.{unless_keeps, solve_unless_keeps, none_holds}
 use Rattle.square.proofs.Places.{closes}
 use Rattle.square.proofs.Schur.{symmetric}
 use Rattle.square.proofs.Solving.{solution_solves}
@@ -30,42 +29,31 @@ module _ {X : Type 0} (s : Solvers X) (f : Site) (l : Lengths) where
 
   -- what m is after a call
   abbrev next : Matrix X → Square X → SolvingCall X → Matrix X
-  next m q c = cond (is_eliminate c && is_done (solving_called s f l q c).1) q.entered m
-
-  eliminate_settles : (m : Matrix X) (q : Square X) → Settled m q → (r : Option Refusal) (stuck : Option (ℕ × ℕ)) → (eliminated s.base q.entered f.size).stuck ≡ stuck
-      → let t = unless {X = X} r q
-      (record { entered = q.entered; worked = (eliminated s.base q.entered f.size).numbers; standing = standing_after stuck; tally = q.tally }, answer_after f stuck) in
-      Settled (cond (is_done (SolvingAnswer.plain t.1)) q.entered m) t.0
-  eliminate_settles m q h (Some r) stuck e = h
-  eliminate_settles m q h None None e = λ _. (e, refl)
-  eliminate_settles m q h None (Some at) e = λ stands. let z : ◌≡◌ {A = ℕ} 0 1 = cc in absurd (omega arith)
+  next m q c = cond (is_eliminate c && is_ok (solving_called s f l q c).1) q.entered m
 
   call_settles : (m : Matrix X) (q : Square X) (c : SolvingCall X) → Settled m q → Settled (next m q c) (solving_called s f l q c).0
-  call_settles m q (SolvingCall.plain Clear) h =
-      unless_keeps (Settled m) (clear_refusal f l) q _ h (λ _ stands. let z : ◌≡◌ {A = ℕ} 0 1 = cc in absurd (omega arith))
-  call_settles m q (SolvingCall.plain (Set a b x)) h = unless_keeps (Settled m) (set_refusal f l q.standing a b) q _ h (λ _. h)
-  call_settles m q (SolvingCall.plain Eliminate) h = eliminate_settles m q h (eliminate_refusal f l q.standing) _ refl
-  call_settles m q (SolvingCall.plain (Read a b)) h = unless_keeps (Settled m) (read_refusal f l q.standing a b) q _ h (λ _. h)
-  call_settles m q (SolvingCall.plain Tally) h = h
-  call_settles m q (SolvingCall.solve right r) h =
-      solve_unless_keeps (Settled m) (solve_refusal f l q.standing (length right) r) q _ h (λ _. h)
+  call_settles m q (SolvingCall.plain Clear) h stands = grind (arith, nat_tests, h, stands)
+  call_settles m q (SolvingCall.plain (Set a b x)) h stands = grind (arith, nat_tests, h, stands)
+  call_settles m q (SolvingCall.plain Eliminate) h stands = grind (arith, nat_tests, h, stands)
+  call_settles m q (SolvingCall.plain (Read a b)) h stands = grind (arith, nat_tests, h, stands)
+  call_settles m q (SolvingCall.plain Tally) h stands = h stands
+  call_settles m q (SolvingCall.solve right r) h stands = grind (arith, nat_tests, h, stands)
 
   life_settles : (m : Matrix X) (q : Square X) (calls : List (SolvingCall X)) → Settled m q
       → Settled (eliminated_last s f l q m calls) (lived (solving_called s f l) q calls).0
   life_settles m q [] h = h
   life_settles m q (c ∷ cs) h = life_settles (next m q c) (solving_called s f l q c).0 cs (call_settles m q c h)
 
-  -- what it tells of a solve that it answered levels
-  solved_tells : (r : Option Refusal) (q : Square X) (t : Square X × SolvingAnswer X) (ys : List X) → (solve_unless r q t).1 ≡ SolvingAnswer.solved ys
-      → (r ≡ None) × (t.1 ≡ SolvingAnswer.solved ys)
-  solved_tells None q t ys e = (refl, e)
-  solved_tells (Some r) q t ys e = let z : ◌≡◌ {A = ℕ} 0 1 = cc in absurd (omega arith)
+-- what it tells of a call that it was answered
+answered_tells : {Q A : Type 0} (r : Option Refusal) (q : Q) (t : Q × Result A Refusal) (a : A) → (unless r q t).1 ≡ Ok a → (r ≡ None) × (t.1 ≡ Ok a)
+answered_tells None q t a e = (refl, e)
+answered_tells (Some r) q t a e = grind arith
 
-worked_is : (t : Standing) → is_worked t ≡ true → t ≡ Worked
-worked_is Bare e = absurd (false≢true e)
-worked_is Cleared e = absurd (false≢true e)
-worked_is Stuck e = absurd (false≢true e)
-worked_is Worked e = refl
+solve_tells : (f : Site) (l : Lengths) (t : Standing) (m r : ℕ) → solve_refusal f l t m r ≡ None → t ≡ Worked
+solve_tells f l Bare m r e = grind (arith, nat_tests)
+solve_tells f l Cleared m r e = grind (arith, nat_tests)
+solve_tells f l Stuck m r e = grind (arith, nat_tests)
+solve_tells f l Worked m r e = refl
 
 module _ {X : Type 0} (s : Solvers X) (r : Ring X) (laws : Field s r) (f : Site) (store : ℕ → ℕ → Bool) (close : Closes f store) where
   close_balances : Balances s r f
@@ -77,12 +65,9 @@ module _ {X : Type 0} (s : Solvers X) (r : Ring X) (laws : Field s r) (f : Site)
       let w = eliminated o E n in
       let b = by_position o.nothing f right in
       let y : Vector X = solution s w.numbers n b in
-      let told = solved_tells s f l (solve_refusal f l q.standing (length right) m) q _ ys answered in
-      let stands : q.standing ≡ Worked =
-      worked_is q.standing (not-false (is_worked q.standing) (none_holds ((is_bare q.standing, NotCleared)
-      ∷ (not (eqb l.worked f.places && (eqb (length right) f.size && eqb m f.size)), WrongLength)
-      ∷ (not (is_worked q.standing), NotWorked) ∷ []) told.0).1.1.0) in
-      let settled = life_settles s f l (bare o).entered (bare o) calls (λ never. let z : ◌≡◌ {A = ℕ} 0 1 = cc in absurd (omega arith)) stands in
+      let told = answered_tells (solve_refusal f l q.standing (length right) m) q _ (SolvingAnswer.solved ys) answered in
+      let stands = solve_tells f l q.standing (length right) m told.0 in
+      let settled = life_settles s f l (bare o).entered (bare o) calls (λ never. grind arith) stands in
       let ys_are : ys ≡ levels s f w.numbers right =
       (let e = told.1 in let same : levels s f q.worked right ≡ ys = cc in sym same) ∙ ap (λ (x : Matrix X). levels s f x right) settled.1 in
       let level : (j : ℕ) → 1 ≤ j → j ≤ n → of_label o.nothing ys (f.label j) ≡ y j =

@@ -1,5 +1,4 @@
 pub mod Balancing
-pub mod Below
 pub mod Least
 pub mod Lives
 pub mod Places

@@ -1,6 +1,7 @@
 -- One step of the elimination: what solves the reduced system, with one number more by back substitution, solves the system before.
-use Rattle.std.proofs.Common.{◌≡◌, ℕ, zero, suc, ◌+◌, ◌<◌, ◌≤◌, min, max, true, ◌&&◌, ltb, leb, sym, ap, ◌∙◌, ap₂, ⊎_elim, arith}
-use Rattle.std.proofs.lemmas.Bool.{and_from, lt-ltb, le-leb, cond-true, cases_lt, cases_eq}
+use Rattle.std.proofs.Common.{◌≡◌, ℕ, zero, suc, ◌+◌, ◌<◌, ◌≤◌, min, max, sym, ap, ◌∙◌, ap₂, ⊎_elim, arith}
+use Rattle.std.proofs.lemmas.Bool.{cases_eq}
+use Rattle.std.proofs.lemmas.Bool.Decides.{nat_tests}
 use Rattle.arith.specs.Fields.{Ring, Field}
 use Rattle.arith.specs.Operations.{Solvers}
 use Rattle.square.specs.Balance.{total}
@@ -47,22 +48,11 @@ module _ {X : Type 0} (s : Solvers X) (r : Ring X) (laws : Field s r) where
     entry i j li lj =
         let hi = max i j in
         let lo = min i j in
-        let beyond : (ltb k lo && leb lo hi) ≡ true = and_from _ _ (lt-ltb k lo (omega arith)) (le-leb lo hi (omega arith)) in
         let part = (m lo k ⊗ v) ⊗ m hi k in
-        let step : reduced s.base k m hi lo ≡ r.minus (m hi lo) part =
-        cond-true (ltb k lo && leb lo hi) (s.base.updated (m hi lo) (m hi k) (m k k) (m lo k)) (m hi lo) beyond
-        ∙ laws.updates (m hi lo) (m hi k) (m k k) (m lo k) pivot in
-        sym (laws.minus_plus (m hi lo) part) ∙ ap₂ r.plus (sym step)
-        (⊎_elim
-        (λ (l : i < j).
-        let h : hi ≡ j = omega arith in
-        let o : lo ≡ i = omega arith in
-        ap₂ (λ x y. (m x k ⊗ v) ⊗ m y k) o h ∙ laws.times_associates (m i k) v (m j k))
-        (λ (l : j ≤ i).
-        let h : hi ≡ i = omega arith in
-        let o : lo ≡ j = omega arith in
-        ap₂ (λ x y. (m x k ⊗ v) ⊗ m y k) o h ∙ laws.times_commutes (m j k ⊗ v) (m i k) ∙ ap (λ x. m i k ⊗ x) (laws.times_commutes (m j k) v))
-        (cases_lt i j))
+        let step : reduced s.base k m hi lo ≡ r.minus (m hi lo) part = grind (arith, nat_tests, laws.updates (m hi lo) (m hi k) (m k k) (m lo k) pivot) in
+        let turned = laws.times_associates (m i k) v (m j k) in
+        let straight = laws.times_commutes (m j k ⊗ v) (m i k) ∙ ap (λ x. m i k ⊗ x) (laws.times_commutes (m j k) v) in
+        sym (laws.minus_plus (m hi lo) part) ∙ ap₂ r.plus (sym step) (grind (arith, turned, straight))
 
     module _ (c : ℕ) (z y : Vector X) (t : X)
         (last : y k ≡ t ⊗ v) (sum : t ⊕ total s r (λ j. m j k ⊗ y j) (suc k) c ≡ z k) where
@@ -71,13 +61,11 @@ module _ {X : Type 0} (s : Solvers X) (r : Ring X) (laws : Field s r) where
 
       pivot_row : total s r (λ j. symmetric m k j ⊗ y j) k (suc c) ≡ z k
       pivot_row =
-          let high : max k k ≡ k = omega arith in
-          let low : min k k ≡ k = omega arith in
+          let here : symmetric m k k ≡ m k k = grind arith in
           ap₂ r.plus
-          (ap₂ (λ a b. m a b ⊗ y k) high low ∙ ap (λ x. m k k ⊗ x) (last ∙ laws.times_commutes t v) ∙ sym (laws.times_associates (m k k) v t)
+          (ap₂ r.times here (last ∙ laws.times_commutes t v) ∙ sym (laws.times_associates (m k k) v t)
           ∙ ap (λ x. x ⊗ t) (laws.inverts (m k k) pivot) ∙ laws.times_commutes r.one t ∙ laws.times_one t)
-          (total_same s r laws (λ j. symmetric m k j ⊗ y j) (λ j. m j k ⊗ y j) (suc k) c
-          (λ j l q. let hi : max k j ≡ j = omega arith in let lo : min k j ≡ k = omega arith in ap₂ (λ a b. m a b ⊗ y j) hi lo))
+          (total_same s r laws (λ j. symmetric m k j ⊗ y j) (λ j. m j k ⊗ y j) (suc k) c (λ j l q. grind arith))
           ∙ sum
 
       later_row : (i : ℕ) → k < i
@@ -87,8 +75,7 @@ module _ {X : Type 0} (s : Solvers X) (r : Ring X) (laws : Field s r) where
       later_row i l reduced-row =
           let u = m i k in
           let R : Vector X = λ j. symmetric (reduced s.base k m) i j in
-          let hi : max i k ≡ i = omega arith in
-          let lo : min i k ≡ k = omega arith in
+          let here : symmetric m i k ≡ u = grind arith in
           let b = (z k ⊗ v) ⊗ u in
           let split : total s r (λ j. symmetric m i j ⊗ y j) (suc k) c ≡ total s r (λ j. R j ⊗ y j) (suc k) c ⊕ (u ⊗ (v ⊗ rest)) =
           total_same s r laws (λ j. symmetric m i j ⊗ y j) (λ j. (R j ⊗ y j) ⊕ (u ⊗ (v ⊗ (m j k ⊗ y j)))) (suc k) c
@@ -103,7 +90,7 @@ module _ {X : Type 0} (s : Solvers X) (r : Ring X) (laws : Field s r) where
           ∙ sym (laws.times_plus u (v ⊗ t) (v ⊗ rest))
           ∙ ap (λ x. u ⊗ x) (sym (laws.times_plus v t rest) ∙ ap (λ x. v ⊗ x) sum ∙ laws.times_commutes v (z k))
           ∙ laws.times_commutes u (z k ⊗ v) in
-          ap₂ (λ a e. (m a e ⊗ y k) ⊕ total s r (λ j. symmetric m i j ⊗ y j) (suc k) c) hi lo
+          ap (λ x. (x ⊗ y k) ⊕ total s r (λ j. symmetric m i j ⊗ y j) (suc k) c) here
           ∙ ap (λ x. (u ⊗ y k) ⊕ x) (split ∙ ap (λ x. x ⊕ (u ⊗ (v ⊗ rest))) row)
           ∙ left_swap s r laws (u ⊗ y k) (r.minus (z i) b) (u ⊗ (v ⊗ rest))
           ∙ ap (λ x. r.minus (z i) b ⊕ x) both

@@ -1,10 +1,11 @@
 -- From the last position to the first, each number more solves a system one step less reduced.
-use Rattle.std.proofs.Common.{◌≡◌, ℕ, zero, suc, ◌+◌, ◌-◌, ◌≤◌, Bool, true, false, cond, ◌&&◌, eqb, ltb, leb, Some, None, Option, sym, refl, ap, ◌∙◌, ap₂, arith}
-use Rattle.std.proofs.lemmas.Bool.{and_left, lt-ltb, le-ltb, eqb-true, eq-eqb, ne_eqb, cond-true, cond-false, cond_both}
+use Rattle.std.proofs.Common.{◌≡◌, ℕ, zero, suc, ◌+◌, ◌-◌, ◌≤◌, eqb, ltb, Some, None, Option, sym, refl, ap, ◌∙◌, ap₂, ⊎_elim, arith}
+use Rattle.std.proofs.lemmas.Bool.{lt-ltb, eq-eqb, cond-true, cases_eq}
+use Rattle.std.proofs.lemmas.Bool.Decides.{nat_tests}
 use Rattle.arith.specs.Fields.{Ring, Field}
 use Rattle.arith.specs.Operations.{Operations, Solvers}
 use Rattle.square.specs.Balance.{total}
-use Rattle.square.specs.Elimination.{Work, reduced, stepped, eliminated}
+use Rattle.square.specs.Elimination.{reduced, stepped, eliminated}
 use Rattle.square.specs.Solution.{Vector, forward, taken_from, backward, solution}
 use Rattle.square.specs.Squares.{Matrix}
 use Rattle.square.proofs.Schur.{symmetric, taken_plus, schur}
@@ -17,60 +18,42 @@ record Stepped {X : Type 0} (o : Operations X) (k : ℕ) (m : Matrix X) (stuck :
   numbers_are : (stepped o k m stuck).numbers ≡ reduced o k m
 
 step_tells : {X : Type 0} (o : Operations X) (k : ℕ) (m : Matrix X) (stuck : Option (ℕ × ℕ)) → (stepped o k m stuck).stuck ≡ None → Stepped o k m stuck
-step_tells o k m (Some at) e = let z : ◌≡◌ {A = ℕ} 0 1 = cc in absurd (omega arith)
-step_tells {X} o k m None e = at (eqb (o.judged (m k k)) 0) refl e
-  where
-    good : Work X
-    good = record { numbers = reduced o k m; stuck = None }
-
-    bad : Work X
-    bad = record { numbers = m; stuck = Some (k, o.judged (m k k)) }
-
-    at : (b : Bool) → eqb (o.judged (m k k)) 0 ≡ b → (cond b good bad).stuck ≡ None → Stepped o k m None
-    at true t e = record {
-      fine = refl;
-      pivot = eqb-true (o.judged (m k k)) 0 t;
-      numbers_are = ap (λ (w : Work X). w.numbers) (cond-true (eqb (o.judged (m k k)) 0) good bad t);
-    }
-    at false t e = let z : ◌≡◌ {A = ℕ} 0 1 = cc in absurd (omega arith)
+step_tells o k m (Some at) e = grind arith
+step_tells o k m None e = record { fine = refl; pivot = grind (arith, nat_tests); numbers_are = grind (arith, nat_tests) }
 
 -- a step leaves the columns up to its own
 step_stays : {X : Type 0} (o : Operations X) (k : ℕ) (m : Matrix X) (stuck : Option (ℕ × ℕ)) (i j : ℕ) → j ≤ k → (stepped o k m stuck).numbers i j ≡ m i j
 step_stays o k m (Some at) i j l = refl
-step_stays {X} o k m None i j l =
-    cond_both (eqb (o.judged (m k k)) 0) _ _ (λ (w : Work X). w.numbers i j ≡ m i j)
-    (λ _. cond-false (ltb k j && leb j i) _ _ (and_left (ltb k j) (leb j i) (le-ltb k j l))) (λ _. refl)
+step_stays o k m None i j l = grind (arith, nat_tests)
 
 module _ {X : Type 0} (o : Operations X) (a : Matrix X) where
   -- the next column is settled after k steps
-  column_stays : (k c i : ℕ) → (eliminated o a (k + c)).numbers i (suc k) ≡ (eliminated o a k).numbers i (suc k)
-  column_stays k zero i = let e : k + 0 ≡ k = omega arith in ap (λ n. (eliminated o a n).numbers i (suc k)) e
-  column_stays k (suc c) i =
-      let e : k + suc c ≡ suc (k + c) = omega arith in
-      let w = eliminated o a (k + c) in
-      ap (λ n. (eliminated o a n).numbers i (suc k)) e
-      ∙ step_stays o (suc (k + c)) w.numbers w.stuck i (suc k) (omega arith) ∙ column_stays k c i
+  column_stays : (k n i : ℕ) → k ≤ n → (eliminated o a n).numbers i (suc k) ≡ (eliminated o a k).numbers i (suc k)
+  column_stays k zero i h = grind arith
+  column_stays k (suc n) i h =
+      let w = eliminated o a n in
+      ⊎_elim (λ (q : k ≡ suc n). ap (λ x. (eliminated o a x).numbers i (suc k)) (sym q))
+      (λ (q : k ≡ suc n → ⊥). step_stays o (suc n) w.numbers w.stuck i (suc k) (omega (arith, q)) ∙ column_stays k n i (omega (arith, q)))
+      (cases_eq k (suc n))
 
   -- where no step stuck, none of the first k did
-  fine_before : (k c : ℕ) → (eliminated o a (k + c)).stuck ≡ None → (eliminated o a k).stuck ≡ None
-  fine_before k zero e = let q : k ≡ k + 0 = omega arith in ap (λ n. (eliminated o a n).stuck) q ∙ e
-  fine_before k (suc c) e =
-      let q : suc (k + c) ≡ k + suc c = omega arith in
-      let w = eliminated o a (k + c) in
-      fine_before k c (step_tells o (suc (k + c)) w.numbers w.stuck (ap (λ n. (eliminated o a n).stuck) q ∙ e)).fine
+  fine_before : (k n : ℕ) → k ≤ n → (eliminated o a n).stuck ≡ None → (eliminated o a k).stuck ≡ None
+  fine_before k zero h e = grind arith
+  fine_before k (suc n) h e =
+      let w = eliminated o a n in
+      ⊎_elim (λ (q : k ≡ suc n). ap (λ x. (eliminated o a x).stuck) q ∙ e)
+      (λ (q : k ≡ suc n → ⊥). fine_before k n (omega (arith, q)) (step_tells o (suc n) w.numbers w.stuck e).fine)
+      (cases_eq k (suc n))
 
   -- and so is the next right side
-  forward_stays : (w : Matrix X) (b : Vector X) (k c : ℕ) → forward o w b (k + c) (suc k) ≡ forward o w b k (suc k)
-  forward_stays w b k zero = let e : k + 0 ≡ k = omega arith in ap (λ n. forward o w b n (suc k)) e
-  forward_stays w b k (suc c) =
-      let e : k + suc c ≡ suc (k + c) = omega arith in
-      ap (λ n. forward o w b n (suc k)) e ∙ cond-false (ltb (suc (k + c)) (suc k)) _ _ (le-ltb (suc (k + c)) (suc k) (omega arith)) ∙ forward_stays w b k c
+  forward_stays : (w : Matrix X) (b : Vector X) (k n : ℕ) → k ≤ n → forward o w b n (suc k) ≡ forward o w b k (suc k)
+  forward_stays w b k zero h = grind arith
+  forward_stays w b k (suc n) h = grind (arith, nat_tests, forward_stays w b k n)
 
 -- back substitution has not yet come to the positions before the last c
 backward_untouched : {X : Type 0} (s : Solvers X) (w : Matrix X) (n : ℕ) (z : Vector X) (c j : ℕ) → j + c ≤ n → backward s w n z c j ≡ z j
 backward_untouched s w n z zero j h = refl
-backward_untouched s w n z (suc c) j h =
-    cond-false (eqb j (n - c)) _ _ (ne_eqb j (n - c) (λ (e : j ≡ n - c). omega arith)) ∙ backward_untouched s w n z c j (omega arith)
+backward_untouched s w n z (suc c) j h = grind (arith, nat_tests, backward_untouched s w n z c j)
 
 module _ {X : Type 0} (s : Solvers X) (r : Ring X) (laws : Field s r) (n : ℕ) (a : Matrix X) (b : Vector X)
     (fine : (eliminated s.base a n).stuck ≡ None) where
@@ -92,16 +75,12 @@ module _ {X : Type 0} (s : Solvers X) (r : Ring X) (laws : Field s r) (n : ℕ) 
   solves_from (suc c) k e i l h =
       let o = s.base in
       let p = suc k in
-      let e' : p + c ≡ n = omega arith in
-      let next_fine : (eliminated o a p).stuck ≡ None = fine_before o a p c (ap (λ x. (eliminated o a x).stuck) e' ∙ fine) in
-      let step = step_tells o p (m k) (eliminated o a k).stuck next_fine in
-      let column : (i : ℕ) → w i p ≡ m k i p = λ i. sym (ap (λ x. (eliminated o a x).numbers i p) e) ∙ column_stays o a k (suc c) i in
       let at : n - c ≡ p = omega arith in
-      let start : y c p ≡ z k p =
-      backward_untouched s w n (z n) c p (omega arith) ∙ sym (ap (λ x. z x p) e) ∙ forward_stays o a w b k (suc c) in
+      let step = step_tells o p (m k) (eliminated o a k).stuck (fine_before o a p n (omega arith) fine) in
+      let column : (i : ℕ) → w i p ≡ m k i p = λ i. column_stays o a k n i (omega arith) in
+      let start : y c p ≡ z k p = backward_untouched s w n (z n) c p (omega arith) ∙ forward_stays o a w b k n (omega arith) in
       let t = taken_from s w p (y c) (y c p) (suc p) c in
-      let later : (j : ℕ) → suc p ≤ j → y (suc c) j ≡ y c j =
-      λ j lj. cond-false (eqb j (n - c)) _ _ (ne_eqb j (n - c) (λ (q : j ≡ n - c). omega arith)) in
+      let later : (j : ℕ) → suc p ≤ j → y (suc c) j ≡ y c j = λ j lj. grind (arith, nat_tests) in
       let last : y (suc c) p ≡ r.times t (r.inverse (m k p p)) =
       cond-true (eqb p (n - c)) _ _ (eq-eqb p (n - c) (sym at))
       ∙ ap (λ x. s.divided (taken_from s w x (y c) (y c x) (suc x) c) (w x x)) at
@@ -114,7 +93,7 @@ module _ {X : Type 0} (s : Solvers X) (r : Ring X) (laws : Field s r) (n : ℕ) 
       (λ x lx hx.
       total_same s r laws (λ j. r.times (symmetric (reduced o p (m k)) x j) (y (suc c) j)) (λ j. r.times (symmetric (m p) x j) (y c j)) (suc p) c
       (λ j lj q. ap₂ r.times (ap (λ (u : Matrix X). symmetric u x j) (sym step.numbers_are)) (later j lj))
-      ∙ solves_from c p e' x lx (omega arith)
+      ∙ solves_from c p (omega arith) x lx (omega arith)
       ∙ cond-true (ltb p x) _ _ (lt-ltb p x lx)
       ∙ ap₂ (λ u d. o.updated (z k x) u d (z k p)) (column x) (column p))
       i l (omega arith)

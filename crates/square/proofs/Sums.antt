@@ -1,6 +1,7 @@
 -- Sums in a field.
 use Rattle.std.proofs.Common.{◌≡◌, ℕ, zero, suc, ◌+◌, ◌<◌, ◌≤◌, Bool, cond, eqb, sym, refl, ap, ◌∙◌, ap₂, ⊎_elim, arith}
-use Rattle.std.proofs.lemmas.Bool.{eq-eqb, ne_eqb, cond-true, cond-false, cases_eq}
+use Rattle.std.proofs.lemmas.Bool.{cases_eq}
+use Rattle.std.proofs.lemmas.Bool.Decides.{nat_tests}
 use Rattle.arith.specs.Fields.{Ring, Field}
 use Rattle.arith.specs.Operations.{Solvers}
 use Rattle.square.specs.Balance.{total}
@@ -55,16 +56,13 @@ module _ {X : Type 0} (s : Solvers X) (r : Ring X) (laws : Field s r) where
   only k x j = cond (eqb j k) x none
 
   only_none : (k : ℕ) (x : X) (a c : ℕ) → ((j : ℕ) → a ≤ j → j < a + c → j ≡ k → ⊥) → total s r (only k x) a c ≡ none
-  only_none k x a c h =
-      total_same (only k x) (λ _. none) a c (λ j l q. cond-false (eqb j k) x none (ne_eqb j k (h j l q))) ∙ total_nothing a c
+  only_none k x a c h = total_same (only k x) (λ _. none) a c (λ j l q. grind (arith, nat_tests, h j l q)) ∙ total_nothing a c
 
   only_one : (k : ℕ) (x : X) (a c : ℕ) → a ≤ k → k < a + c → total s r (only k x) a c ≡ x
   only_one k x a zero l h = absurd (omega arith)
   only_one k x a (suc c) l h =
-      ⊎_elim
-      (λ (e : a ≡ k). ap₂ r.plus (cond-true (eqb a k) x none (eq-eqb a k e)) (only_none k x (suc a) c (λ j u v w. omega arith)) ∙ laws.plus_nothing x)
-      (λ (e : a ≡ k → ⊥).
-      ap₂ r.plus (cond-false (eqb a k) x none (ne_eqb a k e)) (only_one k x (suc a) c (omega (arith, e)) (omega arith)) ∙ nothing_plus x)
+      ⊎_elim (λ (e : a ≡ k). ap₂ r.plus (grind (arith, nat_tests, e)) (only_none k x (suc a) c (λ j u v w. omega arith)) ∙ laws.plus_nothing x)
+      (λ (e : a ≡ k → ⊥). ap₂ r.plus (grind (arith, nat_tests, e)) (only_one k x (suc a) c (omega (arith, e)) (omega arith)) ∙ nothing_plus x)
       (cases_eq a k)
 
   -- a sum over all labels, in the order of their positions
@@ -81,12 +79,4 @@ module _ {X : Type 0} (s : Solvers X) (r : Ring X) (laws : Field s r) where
       ∙ only_one (f.label j) (G (f.label j)) 1 n range.0 (omega (arith, range.1)))
     where
       same : (j : ℕ) → 1 ≤ j → j ≤ f.size → (b : ℕ) → 1 ≤ b → b ≤ f.size → cond (eqb j (f.position b)) (G b) none ≡ cond (eqb b (f.label j)) (G (f.label j)) none
-      same j l h b u v =
-          ⊎_elim
-          (λ (e : b ≡ f.label j).
-          cond-true (eqb j (f.position b)) (G b) none (eq-eqb j (f.position b) (sym (ap f.position e ∙ (close.labels j l h).2)))
-          ∙ ap G e ∙ sym (cond-true (eqb b (f.label j)) (G (f.label j)) none (eq-eqb b (f.label j) e)))
-          (λ (e : b ≡ f.label j → ⊥).
-          cond-false (eqb j (f.position b)) (G b) none (ne_eqb j (f.position b) (λ q. e (sym (close.positions b u v).2 ∙ ap f.label (sym q))))
-          ∙ sym (cond-false (eqb b (f.label j)) (G (f.label j)) none (ne_eqb b (f.label j) e)))
-          (cases_eq b (f.label j))
+      same j l h b u v = grind (arith, nat_tests, close.labels j l h, close.positions b u v)

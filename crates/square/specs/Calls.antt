@@ -1,6 +1,7 @@
 -- What the full square answers to each call, and to any list of calls.
-use Rattle.std.specs.Prelude.{ℕ, ◌+◌, ◌-◌, ◌^◌, min, max, Bool, true, false, cond, not, ◌&&◌, ◌||◌, List, [], ◌∷◌, map, length, Some, None, Option, ◌==◌, nat_le, nat_lt, slice_index_or}
+use Rattle.std.specs.Prelude.{ℕ, ◌+◌, ◌-◌, ◌^◌, min, max, Bool, true, false, cond, not, ◌&&◌, ◌||◌, List, [], ◌∷◌, map, length, Some, None, Ok, Err, Option, Result, ◌==◌, nat_le, nat_lt, slice_index_or}
 use Rattle.std.specs.List.{range_with_len}
+use Rattle.std.specs.Result.{result_map_both}
 use Rattle.arith.specs.Operations.{Operations, Solvers}
 use Rattle.square.specs.declared.calls.Answer.{Answer}
 use Rattle.square.specs.declared.calls.Answer.TheVariants as answer
@@ -17,15 +18,11 @@ use Rattle.square.specs.Squares.{Matrix, Site, Lengths, Square}
 
 abbrev pub is_bare : Standing → Bool
 is_bare Bare = true
-is_bare Cleared = false
-is_bare Stuck = false
-is_bare Worked = false
+is_bare s = false
 
 abbrev pub is_worked : Standing → Bool
-is_worked Bare = false
-is_worked Cleared = false
-is_worked Stuck = false
 is_worked Worked = true
+is_worked s = false
 
 -- whether a label isn't 1 to n
 abbrev pub is_outside : Site → ℕ → Bool
@@ -71,42 +68,45 @@ row_of f a b = max (f.position a) (f.position b)
 abbrev pub column_of : Site → ℕ → ℕ → ℕ
 column_of f a b = min (f.position a) (f.position b)
 
+-- the number that a matrix has for two labels
+abbrev pub between : {X : Type 0} → Site → Matrix X → ℕ → ℕ → X
+between f m a b = m (row_of f a b) (column_of f a b)
+
 -- the matrix with x at (i, j)
 abbrev pub written : {X : Type 0} → Matrix X → ℕ → ℕ → X → Matrix X
 written m i j x r c = cond (i == r && j == c) x (m r c)
 
--- the standing after an elimination, and the answer to it; a position at which it stuck goes by its label
+-- the standing after an elimination, and the answer to it, d where it came to its end; a position at which it stuck goes by its label
 abbrev pub standing_after : Option (ℕ × ℕ) → Standing
 standing_after None = Worked
 standing_after (Some at) = Stuck
 
-abbrev pub answer_after : {X : Type 0} → Site → Option (ℕ × ℕ) → Answer X
-answer_after f None = answer.Done
-answer_after f (Some at) = answer.Refused (NoPivot (f.label at.0) at.1)
+abbrev pub answer_after : {A : Type 0} → Site → A → Option (ℕ × ℕ) → Result A Refusal
+answer_after f d None = Ok d
+answer_after f d (Some at) = Err (NoPivot (f.label at.0) at.1)
 
--- the square and what it answered
-abbrev pub State : Type 0 → Type 0
-State X = Square X × Answer X
+-- the square and what it answered, or why it refused
+abbrev pub State : Type 0 → Type 0 → Type 0
+State X A = Square X × Result A Refusal
 
 -- a refusal leaves everything as it was
-abbrev pub unless : {Q X : Type 0} → Option Refusal → Q → Q × Answer X → Q × Answer X
+abbrev pub unless : {Q A : Type 0} → Option Refusal → Q → Q × Result A Refusal → Q × Result A Refusal
 unless None q t = t
-unless (Some r) q t = (q, answer.Refused r)
+unless (Some r) q t = (q, Err r)
 
-abbrev pub called : {X : Type 0} → Operations X → Site → Lengths → Square X → Call X → State X
+abbrev pub called : {X : Type 0} → Operations X → Site → Lengths → Square X → Call X → State X (Answer X)
 called o f l q call.Clear =
     unless (clear_refusal f l) q
-    (record { entered = λ i j. o.nothing; worked = λ i j. o.nothing; standing = Cleared; tally = q.tally }, answer.Done)
+    (record { entered = λ i j. o.nothing; worked = λ i j. o.nothing; standing = Cleared; tally = q.tally }, Ok answer.Done)
 called o f l q (call.Set a b x) =
     unless (set_refusal f l q.standing a b) q
-    (record { entered = written q.entered (row_of f a b) (column_of f a b) x; worked = q.worked; standing = q.standing; tally = q.tally }, answer.Done)
+    (record { entered = written q.entered (row_of f a b) (column_of f a b) x; worked = q.worked; standing = q.standing; tally = q.tally }, Ok answer.Done)
 called o f l q call.Eliminate =
     let w = eliminated o q.entered f.size in
     unless (eliminate_refusal f l q.standing) q
-    (record { entered = q.entered; worked = w.numbers; standing = standing_after w.stuck; tally = q.tally }, answer_after f w.stuck)
-called o f l q (call.Read a b) =
-    unless (read_refusal f l q.standing a b) q (q, answer.Number (q.worked (row_of f a b) (column_of f a b)))
-called o f l q call.Tally = (q, answer.Tally q.tally)
+    (record { entered = q.entered; worked = w.numbers; standing = standing_after w.stuck; tally = q.tally }, answer_after f answer.Done w.stuck)
+called o f l q (call.Read a b) = unless (read_refusal f l q.standing a b) q (q, Ok (answer.Number (between f q.worked a b)))
+called o f l q call.Tally = (q, Ok (answer.Tally q.tally))
 
 -- ---- calls of an arithmetic that solves
 
@@ -119,9 +119,13 @@ pub data SolvingAnswer (X : Type 0) : Type 0 where
   plain : Answer X → SolvingAnswer X
   solved : List X → SolvingAnswer X
 
+-- the number of a label in a list by label
+abbrev pub of_label : {X : Type 0} → X → List X → ℕ → X
+of_label nothing xs a = slice_index_or xs (a - 1) nothing
+
 -- numbers by label, read by position
 abbrev pub by_position : {X : Type 0} → X → Site → List X → Vector X
-by_position nothing f xs i = slice_index_or xs (f.label i - 1) nothing
+by_position nothing f xs i = of_label nothing xs (f.label i)
 
 -- numbers by position, listed by label
 abbrev pub by_label : {X : Type 0} → Site → Vector X → List X
@@ -134,16 +138,12 @@ levels s f w right = by_label f (solution s w f.size (by_position s.base.nothing
 abbrev pub one_more : ℕ → ℕ
 one_more n = min (n + 1) (2 ^ 32 - 1)
 
-abbrev pub solve_unless : {Q X : Type 0} → Option Refusal → Q → Q × SolvingAnswer X → Q × SolvingAnswer X
-solve_unless None q t = t
-solve_unless (Some r) q t = (q, SolvingAnswer.plain (answer.Refused r))
-
-abbrev pub solving_called : {X : Type 0} → Solvers X → Site → Lengths → Square X → SolvingCall X → Square X × SolvingAnswer X
-solving_called s f l q (SolvingCall.plain c) = let t = called s.base f l q c in (t.0, SolvingAnswer.plain t.1)
+abbrev pub solving_called : {X : Type 0} → Solvers X → Site → Lengths → Square X → SolvingCall X → State X (SolvingAnswer X)
+solving_called s f l q (SolvingCall.plain c) = let t = called s.base f l q c in (t.0, result_map_both SolvingAnswer.plain (λ r. r) t.1)
 solving_called s f l q (SolvingCall.solve right r) =
-    solve_unless (solve_refusal f l q.standing (length right) r) q (
+    unless (solve_refusal f l q.standing (length right) r) q (
       record { entered = q.entered; worked = q.worked; standing = q.standing; tally = one_more q.tally },
-      SolvingAnswer.solved (levels s f q.worked right),
+      Ok (SolvingAnswer.solved (levels s f q.worked right)),
     )
 
 -- ---- lives: lists of calls, with the answers to them in turn

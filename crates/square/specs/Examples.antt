@@ -1,5 +1,5 @@
 -- Two linked nodes in the order of their labels, worked in residues and in floats.
-use Rattle.std.specs.Prelude.{◌≡◌, ◌&&◌, ◌||◌, List, [], ◌∷◌, map, ◌==◌, from_bits}
+use Rattle.std.specs.Prelude.{◌≡◌, ◌&&◌, ◌||◌, List, [], ◌∷◌, map, Ok, Err, Result, ◌==◌, from_bits}
 use Rattle.std.specs.Float.{binary64}
 use Rattle.std.specs.Float.Ieee.{neg}
 use Rattle.arith.specs.declared.residues.Residue.{Residue}
@@ -8,6 +8,7 @@ use Rattle.arith.specs.Operations.{Solvers, floats, residues}
 use Rattle.arith.specs.Residues.{residue}
 use Rattle.square.specs.declared.calls.Answer.TheVariants as answer
 use Rattle.square.specs.declared.calls.Call.TheVariants as call
+use Rattle.square.specs.declared.refusals.Refusal.{Refusal}
 use Rattle.square.specs.declared.refusals.Refusal.TheVariants.{NoPivot}
 use Rattle.square.specs.Calls.{SolvingCall, SolvingAnswer, solving_called, lived}
 use Rattle.square.specs.Squares.{Site, Lengths, Square, bare}
@@ -30,15 +31,15 @@ pair_calls d e x =
     SolvingCall.plain call.Clear ∷ SolvingCall.plain (call.Set 1 1 d) ∷ SolvingCall.plain (call.Set 2 2 e)
     ∷ SolvingCall.plain (call.Set 2 1 x) ∷ SolvingCall.plain call.Eliminate ∷ []
 
-abbrev pub pair_life : {X : Type 0} → Solvers X → X → X → X → Square X × List (SolvingAnswer X)
+abbrev pub pair_life : {X : Type 0} → Solvers X → X → X → X → Square X × List (Result (SolvingAnswer X) Refusal)
 pair_life s d e x = lived (solving_called s pair three_places) (bare s.base) (pair_calls d e x)
 
-abbrev pub done : {X : Type 0} → SolvingAnswer X
-done = SolvingAnswer.plain answer.Done
+abbrev pub done : {X : Type 0} → Result (SolvingAnswer X) Refusal
+done = Ok (SolvingAnswer.plain answer.Done)
 
-abbrev pub levels_of : {X : Type 0} → SolvingAnswer X → List X
-levels_of (SolvingAnswer.plain a) = []
-levels_of (SolvingAnswer.solved ys) = ys
+abbrev pub levels_of : {X : Type 0} → Result (SolvingAnswer X) Refusal → List X
+levels_of (Ok (SolvingAnswer.solved ys)) = ys
+levels_of a = []
 
 -- the levels that the eliminated system answers for two right sides
 abbrev pub pair_levels : {X : Type 0} → Solvers X → X → X → X → X → X → List X
@@ -51,7 +52,7 @@ pub record WorkedPairs : Type 0 where
   pub float_pivot : (pair_life floats (whole 2) (whole 3) (whole 1)).0.worked 2 2 ≡ from_bits binary64 0x4004_0000_0000_0000
   pub float_levels : pair_levels floats (whole 2) (whole 3) (whole 1) (whole 3) (whole 4) ≡ whole 1 ∷ whole 1 ∷ []
   -- 1 and 1 with link 2 stick at label 2, in floats: 1 − (2 ÷ 1) × 2 is below zero
-  pub float_stuck : (pair_life floats (whole 1) (whole 1) (whole 2)).1 ≡ done ∷ done ∷ done ∷ done ∷ SolvingAnswer.plain (answer.Refused (NoPivot 2 2)) ∷ []
+  pub float_stuck : (pair_life floats (whole 1) (whole 1) (whole 2)).1 ≡ done ∷ done ∷ done ∷ done ∷ Err (NoPivot 2 2) ∷ []
   pub float_below : (pair_life floats (whole 1) (whole 1) (whole 2)).0.worked 2 2 ≡ neg (whole 3)
   -- 1 and 4 with link 2 stick there, in residues: 4 − (2 ÷ 1) × 2 is 0
-  pub residue_stuck : (pair_life residues (residue 1) (residue 4) (residue 2)).1 ≡ done ∷ done ∷ done ∷ done ∷ SolvingAnswer.plain (answer.Refused (NoPivot 2 1)) ∷ []
+  pub residue_stuck : (pair_life residues (residue 1) (residue 4) (residue 2)).1 ≡ done ∷ done ∷ done ∷ done ∷ Err (NoPivot 2 1) ∷ []

@@ -4,10 +4,14 @@ use Rattle.plan.specs.Lookups.{size_in, label_in, position_in, place_in, place_o
 use Rattle.plan.specs.Planned.{Arrays}
 use Rattle.square.specs.Squares.{Matrix, Site}
 
+-- what a table has at a place, and nothing where there is no place
+abbrev pub number_at : {X : Type 0} → X → List X → Option ℕ → X
+number_at nothing t (Some p) = slice_index_or t p nothing
+number_at nothing t None = nothing
+
 -- whether a place, where there is one, is a link of the sheet
 abbrev pub link_at : Arrays → Option ℕ → Bool
-link_at a (Some p) = slice_index_or a.links p false
-link_at a None = false
+link_at a = number_at false a.links
 
 -- what the square knows of a plan
 abbrev pub site_of : Arrays → Site
@@ -26,10 +30,6 @@ place_at a i j = cond (nat_lt 0 j && nat_le j (size_in a)) (place_in a i j) None
 -- the store of a plan: its places
 abbrev pub store_of : Arrays → ℕ → ℕ → Bool
 store_of a i j = is_some (place_at a i j)
-
-abbrev pub number_at : {X : Type 0} → X → List X → Option ℕ → X
-number_at nothing t (Some p) = slice_index_or t p nothing
-number_at nothing t None = nothing
 
 -- the matrix that a table stands for: its number at each place of the plan, and nothing elsewhere
 abbrev pub matrix_of : {X : Type 0} → X → Arrays → List X → Matrix X

@@ -1,8 +1,7 @@
 //! Calls as values, and what is answered to them.
-use crate::refusals::Refusal;
 
 /// A call on a box over any arithmetic.
-#[derive(Clone, Copy)]
+#[derive(Clone, Copy, PartialEq, Eq, Debug)]
 pub enum Call<N> {
     /// Makes every number nothing.
     Clear,
@@ -16,13 +15,11 @@ pub enum Call<N> {
     Tally,
 }
 
-/// What is answered to a call.
-#[derive(Clone, Copy)]
+/// What is answered to a call, unless it is refused.
+#[derive(Clone, Copy, PartialEq, Eq, Debug)]
 pub enum Answer<N> {
     /// It was done.
     Done,
-    /// It was refused, and why.
-    Refused(Refusal),
     /// The number that was read.
     Number(N),
     /// How often was solved.

@@ -1,7 +1,7 @@
 //! How a box stands.
 
 /// What has become of a box so far.
-#[derive(Clone, Copy)]
+#[derive(Clone, Copy, PartialEq, Eq, Debug)]
 pub enum Standing {
     /// Never cleared.
     Bare,

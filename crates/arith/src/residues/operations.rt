@@ -3,40 +3,53 @@ ghost use Rattle.std.specs.Prelude.{◌≡◌, ◌<◌};
 ghost use Rattle.arith.specs.Residues.{residue, difference, product, quotient, updated_residue, judged_residue, taken_residue, divided_residue};
 ghost use Rattle.arith.specs.Nothing;
 
-use super::Residue;
-use super::modular::{PRIME, inverse, times};
+use super::modular::{inverse, times};
+use super::{PRIME, Residue};
 use crate::arithmetic::{Arithmetic, Solving};
+use std::ops::{Mul, Sub};
 
-impl Residue {
-    /// The residue of any number: its remainder by 65,521.
-    pub fn of(x: u32) -> Residue
-        ensures { result ≡ residue x }
-    {
+/// The residue of any number: its remainder by 65,521.
+impl From<u32> for Residue {
+    ghost from_gives = { λ x r. r ≡ residue x };
+
+    fn from(x: u32) -> Residue {
         Residue { value: x % PRIME }
     }
+}
 
-    /// The residue as a number, 0 to 65,520.
-    pub fn value(self) -> u32
-        ensures { result ≡ self.value }
-    {
-        self.value
+/// The residue as a number, 0 to 65,520.
+impl From<Residue> for u32 {
+    ghost from_gives = { λ r x. x ≡ r.value };
+
+    fn from(residue: Residue) -> u32 {
+        residue.value
     }
+}
 
-    fn minus(self, b: Residue) -> Residue
-        ensures { result ≡ difference self b }
-    {
-        Residue::of(self.value + (PRIME - b.value))
+impl Sub for Residue {
+    type Output = Residue;
+
+    ghost sub_gives = { λ a b r. r ≡ difference a b };
+
+    fn sub(self, b: Residue) -> Residue {
+        Residue::from(self.value + (PRIME - b.value))
     }
+}
 
-    fn times(self, b: Residue) -> Residue
-        ensures { result ≡ product self b }
-    {
+impl Mul for Residue {
+    type Output = Residue;
+
+    ghost mul_gives = { λ a b r. r ≡ product a b };
+
+    fn mul(self, b: Residue) -> Residue {
         Residue {
             value: times(self.value, b.value),
         }
     }
+}
 
-    /// By one inverse.
+impl Residue {
+    /// By one inverse. It is no `/`, since `d` has to be above 0.
     fn divided_by(self, d: Residue) -> Residue
         requires { 0 < d.value }
         ensures { result ≡ quotient self d }
@@ -60,14 +73,14 @@ impl Arithmetic for Residue {
     ghost column = { Nothing.column };
 
     fn nothing() -> Residue {
-        Residue::of(0)
+        Residue::from(0)
     }
 
     fn update(a: Residue, u: Residue, d: Residue, v: Residue) -> Residue {
         if d.value == 0 {
             a
         } else {
-            a.minus(v.divided_by(d).times(u))
+            a - v.divided_by(d) * u
         }
     }
 
@@ -78,6 +91,7 @@ impl Arithmetic for Residue {
 }
 
 /// A number over 0 is the number itself.
+#[tactic(auto, using(crate::specs::Nothing::calm))]
 impl Solving for Residue {
     ghost taken = { taken_residue };
 
@@ -86,7 +100,7 @@ impl Solving for Residue {
     ghost calm = { Nothing.calm };
 
     fn take(b: Residue, u: Residue, y: Residue) -> Residue {
-        b.minus(u.times(y))
+        b - u * y
     }
 
     fn over(b: Residue, d: Residue) -> Residue {

@@ -3,6 +3,8 @@ ghost use Rattle.std.specs.Prelude.{◌≡◌, ℕ, false, not, ◌&&◌, ◌||�
 ghost use Rattle.nodeset.specs.Sets.{has};
 
 use super::NodeSet;
+use crate::words::bit_of;
+use std::array;
 
 impl NodeSet {
     /// The set that has nothing.
@@ -16,8 +18,9 @@ impl NodeSet {
     pub fn insert(&mut self, i: u16)
         ensures { (j : ℕ) → has self.new j ≡ has self.old j || (i == j && nat_lt j 512) }
     {
+        // By index, here and in remove: of what get_mut lends, a proof knows nothing afterwards.
         if i < 512 {
-            self.words[i as usize / 64] |= 1 << (i % 64);
+            self.words[i as usize / 64] |= bit_of(i);
         }
     }
 
@@ -26,8 +29,7 @@ impl NodeSet {
         ensures { (j : ℕ) → has self.new j ≡ has self.old j && not (i == j) }
     {
         if i < 512 {
-            let word = self.words[i as usize / 64];
-            self.words[i as usize / 64] = word ^ word & 1 << (i % 64);
+            self.words[i as usize / 64] &= !bit_of(i);
         }
     }
 
@@ -35,8 +37,6 @@ impl NodeSet {
     pub fn join(&mut self, other: &NodeSet)
         ensures { (j : ℕ) → has self.new j ≡ has self.old j || has other.now j }
     {
-        for k in 0..8 {
-            self.words[k] |= other.words[k];
-        }
+        self.words = array::from_fn(|k| self.words[k] | other.words[k]);
     }
 }

@@ -1,34 +1,33 @@
 //! One node goes: its row is joined to the rows of its neighbours, and their degrees are counted again.
-ghost use Rattle.std.specs.Prelude.{◌≡◌, ℕ, ◌<◌, true, false, set, ◌≢◌};
-ghost use Rattle.plan.specs.Tables.{cell, joined_rows, settled_rows, Has, count_below, gone_in, Recounted};
+ghost use Rattle.std.specs.Prelude.{◌≡◌, ◌<◌, set};
+ghost use Rattle.nodeset.specs.Rows.{linked_in as adjacent};
+ghost use Rattle.nodeset.specs.Sets.{count_below};
+ghost use Rattle.plan.specs.Shown.{SameRest};
+ghost use Rattle.plan.specs.Tables.{joined_rows, settled_rows, Agree, gone_in, Recounted};
 
 use super::Planner;
-use crate::rows::{count_row, join_row};
 
 impl Planner {
     /// Joins row v to row a, and counts a's degree again.
-    fn join(&mut self, v: usize, a: usize)
-        requires within { (v < self.old.n) × (a < self.old.n) }
-        requires apart { v ≢ a }
-        ensures rows { Has self.old.n self.new.cells.items (joined_rows (cell self.old.cells.items) v a) }
-        ensures nodes { self.new.nodes.items ≡ set self.old.nodes.items a (record { degree = count_below (cell self.new.cells.items a) self.old.n; gone = gone_in self.old.nodes.items a }) }
-        ensures rest { (self.new.n ≡ self.old.n) × (self.new.order ≡ self.old.order) × (self.new.places ≡ self.old.places) }
+    fn join(&mut self, v: u16, a: u16)
+        requires { (v < self.old.n) × (a < self.old.n) }
+        ensures rows { Agree self.old.n (adjacent self.new.rows) (joined_rows (adjacent self.old.rows) v a) }
+        ensures nodes { self.new.nodes.items ≡ set self.old.nodes.items a (record { degree = count_below (adjacent self.new.rows a) self.old.n; gone = gone_in self.old.nodes.items a }) }
+        ensures rest { SameRest self.old self.new }
     {
-        join_row(&mut self.cells, self.n, v, a);
-        self.nodes[a].degree = count_row(&self.cells, self.n, a);
+        self.rows.join(v, a);
+        self.nodes[a as usize].degree = self.rows.degree(a);
     }
 
     /// Joins row v to each row that it has.
-    pub(super) fn settle(&mut self, v: usize)
+    pub(super) fn settle(&mut self, v: u16)
         requires { v < self.old.n }
-        ensures rows { Has self.old.n self.new.cells.items (settled_rows (cell self.old.cells.items) v self.old.n) }
-        ensures nodes { Recounted self.old.n (cell self.old.cells.items) v self.old.n self.old.nodes.items self.new.nodes.items }
-        ensures rest { (self.new.n ≡ self.old.n) × (self.new.order ≡ self.old.order) × (self.new.places ≡ self.old.places) }
+        ensures rows { Agree self.old.n (adjacent self.new.rows) (settled_rows (adjacent self.old.rows) v self.old.n) }
+        ensures nodes { Recounted self.old.n (adjacent self.old.rows) v self.old.n self.old.nodes.items self.new.nodes.items }
+        ensures rest { SameRest self.old self.new }
     {
-        for a in 0..self.n {
-            if self.cells[v * 512 + a] {
-                self.join(v, a);
-            }
+        for a in self.rows.row(v).iter() {
+            self.join(v, a);
         }
     }
 }

@@ -21,11 +21,12 @@ impl Planner {
         ensures longer { vec_len self.new.order ≤ vec_len self.old.order + 1 }
         ensures stands { Advances (R.Rule.priced rule.now) self.old self.new }
     {
-        if let Some(label) = next(rule, &self.nodes) {
-            let v = label as usize - 1;
-            self.places += 1 + self.nodes[v].degree as usize;
+        if let Some(i) = next(rule, &self.nodes, &self.left) {
+            let label = self.left.remove(i);
+            let v = label - 1;
+            self.places += 1 + self.nodes[v as usize].degree as usize;
             self.order.push_reserved(label);
-            self.nodes[v].gone = true;
+            self.nodes[v as usize].gone = true;
             self.settle(v);
         }
     }
@@ -36,7 +37,7 @@ impl Planner {
         ensures size { self.new.n ≡ self.old.n }
         ensures ends { (linked : ℕ → ℕ → Bool) → TwoWay linked → Shows (R.Rule.priced rule.now) linked 0 self.old → MatchResult result (λ _. Shows (R.Rule.priced rule.now) linked self.new.n self.new × (place_count (R.Rule.priced rule.now) self.old.n linked ≤ 8192)) (λ e. (e ≡ TooManyPlaces) × (8192 < place_count (R.Rule.priced rule.now) self.old.n linked)) }
     {
-        for k in 0..self.n {
+        for _ in 0..self.n {
             self.eliminate_next(rule);
             if self.places > MOST_PLACES {
                 return Err(Refusal::TooManyPlaces);

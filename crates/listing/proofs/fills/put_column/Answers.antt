@@ -1,58 +1,37 @@
-use Rattle.std.proofs.Common.{◌≡◌, ℕ, ◌+◌, ◌-◌, true, false, not, [], ◌∷◌, map, get_or, filter, sym, ap, ◌∙◌, ap₂, arith}
-use Rattle.std.specs.List.{range_with_len}
-use Rattle.plan.specs.Lookups.{label_in}
+use Rattle.std.proofs.Common.{◌≡◌, ℕ, Bool, cond, List, [], ◌∷◌, ap, ap₂, ◌∙◌, sym, rules}
+use Rattle.std.specs.List.{flat_map}
+use Rattle.std.proofs.lemmas.Iterator.{YieldsList-from_slice, YieldsList-from_zip}
+use Rattle.std.proofs.lemmas.Iterator.Consumers.{YieldsList-from_first, YieldsList-end}
+use Rattle.std.proofs.lemmas.List.Folds.{flat_map-map}
+use Rattle.plan.specs.declared.plans.Plan.{Plan}
+use Rattle.plan.specs.Lookups.{label_in, rows_in, links_in}
 use Rattle.plan.specs.Views.{arrays_of}
-use Rattle.listing.specs.Fills.{unlinked, labels_at, column_fill}
-use Rattle.listing.proofs.Pieces.{puts_kept, puts_passed}
-use Rattle.listing.proofs.Writes.{puts_none, puts_as, puts_to}
+use Rattle.plan.specs.Walks.{column_is, columns_at, later_left}
+use Rattle.listing.proofs.Marked.{pair_unless, marked_fill}
+use Rattle.listing.proofs.Writes.{puts_none, puts_as, puts_next}
 use Rattle.listing.proofs.fills.put_column.Goals as goal
-use Rattle.listing.proofs.fills.put_column.Goals.{then-not-is_link, else-not-is_link}
 
-pub loop-place-init : goal.loop-place-init
-loop-place-init c =
-    let a = arrays_of c.args.plan.now in
-    let first = c.span-first.result.0 in
-    let none : 0 ≡ first - first = omega arith in (
-      puts_as (ap (λ n. map (labels_at a c.args.k) (filter (unlinked a) (range_with_len first n))) none) (puts_none _ _),
-      omega arith,
-    )
+pub loop-row-preserved-then-not-link : goal.loop-row-preserved-then-not-link
+loop-row-preserved-then-not-link c =
+    let own = label_in (arrays_of c.args.column.plan.now) c.args.column.position in
+    let pair : List (ℕ × ℕ) = (own, label_in (arrays_of c.in-Some.row.plan.now) c.in-Some.row.position) ∷ [] in
+    let same : (c.label.result, c.label-then-not-link.result) ∷ [] ≡ cond c.in-Some.link.now [] pair =
+    ap₂ (λ x y. (x, y) ∷ []) c.label.ensures.value c.label-then-not-link.ensures.value ∙ ap (λ b. cond b [] pair) (sym c.if-not-link.true) in
+    puts_next (λ r. pair_unless own (column_is r.0, r.1.now)) c.loop-row.yielded (c.in-Some.row, c.in-Some.link) c.loop-row.invariant (puts_as same c.push.ensures)
 
-pub loop-place-preserved : goal.loop-place-preserved
-loop-place-preserved c =
-    let a = arrays_of c.args.plan.now in
-    let f = labels_at a c.args.k in
-    let first = c.span-first.result.0 in
-    let place = c.loop-place.place in
-    let reached : first + (place - first) ≡ place = omega arith in
-    let more : place - first + 1 ≡ place + 1 - first = omega arith in
-    let grown = ap (λ n. map f (filter (unlinked a) (range_with_len first n))) more in
-    elim c.if-not-is_link.branch [
-      | then-not-is_link w ↦
-          (let unmarked : unlinked a place ≡ true = ap not (sym w.if-not-is_link.ensures) in
-          let row = ap (λ xs. get_or xs place 0) c.rows-rows.ensures in
-          let pair : (w.label.result, w.label-then-not-is_link.result) ≡ f place =
-          ap₂ (λ v u. (v, u)) w.label.ensures (w.label-then-not-is_link.ensures ∙ ap (label_in a) row) in
-          let written = puts_kept f (unlinked a) first (place - first) place reached unmarked c.loop-place.invariant.0
-          (puts_as (ap (λ (v : ℕ × ℕ). v ∷ []) pair) w.put-at.ensures) in
-          (puts_to w.table-is w.at-is (puts_as grown written), omega (arith, w.at-is, w.put-at.ensures.ends)))
-      | else-not-is_link w ↦
-          (let marked : unlinked a place ≡ false = ap not (sym w.if-not-is_link.ensures) in
-          let written = puts_passed f (unlinked a) first (place - first) place reached marked c.loop-place.invariant.0 in
-          (puts_to w.table-is w.at-is (puts_as grown written), omega (arith, w.at-is)))
-    ]
+pub loop-row-preserved : goal.loop-row-preserved
+loop-row-preserved c =
+    let own = label_in (arrays_of c.args.column.plan.now) c.args.column.position in
+    let pair : List (ℕ × ℕ) = (own, label_in (arrays_of c.in-Some.row.plan.now) c.in-Some.row.position) ∷ [] in
+    let same : [] ≡ cond c.in-Some.link.now [] pair = ap (λ b. cond b [] pair) (sym c.if-not-link.false) in
+    puts_next (λ r. pair_unless own (column_is r.0, r.1.now)) c.loop-row.yielded (c.in-Some.row, c.in-Some.link) c.loop-row.invariant (puts_as same (puts_none c.loop-row.page))
 
 pub returns : goal.returns
 returns c =
-    let a = arrays_of c.args.plan.now in
-    let k = c.args.k in
-    let first = c.span-first.result.0 in
-    let past = c.span-first.result.1 in
-    let bounds = c.span-first.ensures.bounds in
-    let ended : c.loop-place.place ≡ past = omega (arith, c.loop-place.auto.place-end bounds.0) in
-    let all : map (labels_at a k) (filter (unlinked a) (range_with_len first (c.loop-place.place - first))) ≡ column_fill a k =
-    ap (λ q. map (labels_at a k) (filter (unlinked a) (range_with_len first (q - first)))) ended
-    ∙ ap (λ (s : ℕ × ℕ). map (labels_at a k) (filter (unlinked a) (range_with_len s.0 (s.1 - s.0)))) c.span-first.ensures.value in
-    record {
-      written = puts_as all c.loop-place.invariant.0;
-      near = omega (arith, c.loop-place.invariant.1, bounds.1, c.requires.position.keeps.few);
-    }
+    let plan = c.args.column.plan.now in
+    let k = c.args.column.position in
+    let a = arrays_of plan in
+    let walk = YieldsList-from_zip (YieldsList-from_first column_is later_left (columns_at plan (rows_in a k)) (ap (λ z. later_left z.a) c.into_iter-row-iterator.ensures.into_iter_gives ∙ ap later_left c.zip-row-items.ensures.first ∙ c.later.ensures)) (YieldsList-from_slice (links_in a k) (search rules)) in
+    let given = YieldsList-end walk c.loop-row.yielded c.loop-row.row-iterator c.loop-row.yielded_by c.next.result c.next.new.self c.in-None.is c.next.ensures.steps in
+    let piece : (Plan × ℕ) × Bool → List (ℕ × ℕ) = pair_unless (label_in a k) in
+    puts_as (sym (flat_map-map piece (λ r. (column_is r.0, r.1.now)) c.loop-row.yielded) ∙ ap (flat_map piece) given.0 ∙ marked_fill c.args.column) c.loop-row.invariant

@@ -1,84 +1,87 @@
-use Rattle.std.proofs.Common.{◌≡◌, ◌+◌, ◌-◌, ◌<◌, length, get_or, set, sym, ap, ◌∙◌, subst, arith, rules}
+use Rattle.std.proofs.Common.{◌≡◌, ◌+◌, ◌-◌, [], ◌∷◌, ◌++◌, length, get_or, set, sym, ap, ◌∙◌, subst, arith, length-append}
+use Rattle.std.specs.Iterator.Adapters.{zip_first}
+use Rattle.std.specs.Slice.Iter.{iter_rest}
 use Rattle.std.proofs.lemmas.List.{get_or_read}
 use Rattle.arith.specs.Operations.{operations_of}
 use Rattle.plan.specs.Lookups.{size_in, start_in}
+use Rattle.plan.specs.Positions.{Position}
 use Rattle.plan.specs.Views.{arrays_of}
+use Rattle.plan.proofs.Kept.{position}
+use Rattle.plan.proofs.Spans.{row_at, row_position}
 use Rattle.square.specs.Calls.{by_position}
 use Rattle.square.specs.Plans.{site_of}
-use Rattle.numeric.specs.Positions.{Position, HasLabel}
-use Rattle.numeric.proofs.Forwards.{forward_none, forward_more, forward_all}
-use Rattle.numeric.proofs.Layouts.{row_at, row_position}
+use Rattle.numeric.specs.Labels.{HasLabel}
+use Rattle.numeric.proofs.Forwards.{Forwarded, forward_more, forward_all}
 use Rattle.numeric.proofs.Orders.{has_label, slot_read, slot_set, slot_kept}
+use Rattle.numeric.proofs.Rows.{row_turn, rows_end}
 use Rattle.numeric.proofs.solution.forward_column.Goals as goal
-
-pub slot-requires : goal.slot-requires
-slot-requires g c = has_label (arrays_of c.args.plan.now) c.args.k c.requires.position c.order-order.result.now c.order-order.ensures
-
-pub offset_bounds-levels-slot : goal.offset_bounds-levels-slot
-offset_bounds-levels-slot g c =
-    let h : c.slot.result < length c.args.levels.now = omega (arith, ap length c.order-order.ensures, c.requires.size, c.slot.ensures.inside) in
-    search rules
 
 pub slot-at-requires : goal.slot-at-requires
 slot-at-requires g c =
-    let a = arrays_of c.args.plan.now in
-    let place = c.loop-place.place in
-    subst (λ l. HasLabel c.order-order.result.now (get_or l place 0)) (sym c.rows-rows.ensures)
-    (has_label a (row_at a place) (row_position a c.args.k c.requires.position place (omega (arith, c.span-start.ensures.first)) (omega (arith, c.span-start.ensures.past)))
-    c.order-order.result.now c.order-order.ensures)
-
-pub offset_bounds-levels-at : goal.offset_bounds-levels-at
-offset_bounds-levels-at g c =
-    let h : c.slot-at.result < length c.args.levels.now = omega (arith, ap length c.order-order.ensures, c.requires.size, c.slot-at.ensures.inside) in
-    search rules
-
-pub offset_bounds-levels-at-in-loop-place : goal.offset_bounds-levels-at-in-loop-place
-offset_bounds-levels-at-in-loop-place g c =
-    let h : c.slot-at.result < length c.args.levels.now = omega (arith, ap length c.order-order.ensures, c.requires.size, c.slot-at.ensures.inside) in
-    search rules
-
-pub loop-place-init : goal.loop-place-init
-loop-place-init g c =
-    let o = operations_of g.N.Arithmetic in
-    let a = arrays_of c.args.plan.now in
-    rw c.span-start.ensures.first (forward_none o a c.args.worked.now c.args.k c.requires.position (by_position o.nothing (site_of a) c.args.levels.now))
-
-pub loop-place-preserved : goal.loop-place-preserved
-loop-place-preserved g c =
-    let o = operations_of g.N.Arithmetic in
-    let e = o.nothing in
-    let a = arrays_of c.args.plan.now in
-    let k = c.args.k in
+    let e = g.N.Arithmetic.nothing in
+    let a = arrays_of c.args.column.plan.now in
+    let k = c.args.column.position in
     let w = c.args.worked.now in
-    let y = c.loop-place.levels in
+    let order = c.order-order.result.now in
+    let place = start_in a k + 1 + length c.loop-row.yielded in
+    let here = row_turn e a k (position c.args.column) w c.rows.result.now c.places-places.result.start c.places-places.result.end
+    c.loop-row.yielded c.into_iter-row-iterator.result c.loop-row.row-iterator c.next.new.self c.next.result
+    c.rows.ensures.value c.places-places.ensures.start c.places-places.ensures.end
+    (ap (λ z. iter_rest (zip_first z)) c.into_iter-row-iterator.ensures.into_iter_gives ∙ ap iter_rest c.zip-row-items.ensures.first ∙ c.iter.ensures.rest) (cc)
+    c.loop-row.yielded_by (c.in-Some.row, c.in-Some.number) c.in-Some.is c.next.ensures.steps in
+    subst (HasLabel order) (sym here.row_is)
+    (has_label a (row_at a place) (row_position a k (position c.args.column) place here.low here.high) order c.order-order.ensures)
+
+pub loop-row-preserved : goal.loop-row-preserved
+loop-row-preserved g c =
+    let o = operations_of g.N.Arithmetic in
+    let e = g.N.Arithmetic.nothing in
+    let a = arrays_of c.args.column.plan.now in
+    let k = c.args.column.position in
+    let column = position c.args.column in
+    let w = c.args.worked.now in
+    let y = c.loop-row.levels in
     let from = by_position e (site_of a) c.args.levels.now in
     let now = by_position e (site_of a) y in
     let order = c.order-order.result.now in
-    let start = c.span-start.result.0 in
-    let place = c.loop-place.place in
+    let start = c.places-places.result.start in
+    let place = start_in a k + 1 + length c.loop-row.yielded in
     let at = c.slot-at.result in
     let v = c.update.result in
-    let low : start_in a k < place = omega (arith, c.span-start.ensures.first) in
-    let high : place < start_in a (k + 1) = omega (arith, c.span-start.ensures.past) in
-    let within : place < length w = omega (arith, c.span-start.ensures.inside, c.requires.long) in
-    let size : length y ≡ size_in a = c.loop-place.auto.levels ∙ c.requires.size in
-    let p : Position a (row_at a place) = row_position a k c.requires.position place low high in
-    let at_is : at ≡ get_or order (row_at a place - 1) 0 - 1 = c.slot-at.ensures.value ∙ ap (λ l. get_or order (get_or l place 0 - 1) 0 - 1) c.rows-rows.ensures in
+    let next = by_position e (site_of a) (set y at v) in
+    let here = row_turn e a k (position c.args.column) w c.rows.result.now c.places-places.result.start c.places-places.result.end
+    c.loop-row.yielded c.into_iter-row-iterator.result c.loop-row.row-iterator c.next.new.self c.next.result
+    c.rows.ensures.value c.places-places.ensures.start c.places-places.ensures.end
+    (ap (λ z. iter_rest (zip_first z)) c.into_iter-row-iterator.ensures.into_iter_gives ∙ ap iter_rest c.zip-row-items.ensures.first ∙ c.iter.ensures.rest) (cc)
+    c.loop-row.yielded_by (c.in-Some.row, c.in-Some.number) c.in-Some.is c.next.ensures.steps in
+    let size : length y ≡ size_in a = c.loop-row.auto.levels ∙ c.requires.size in
+    let p : Position a (row_at a place) = row_position a k column place here.low here.high in
+    let at_is : at ≡ get_or order (row_at a place - 1) 0 - 1 = c.slot-at.ensures.value ∙ ap (λ x. get_or order (x - 1) 0 - 1) here.row_is in
     let x = slot_read a (row_at a place) p e y size order at c.order-order.ensures at_is c.index-levels-at.result c.index-levels-at.is in
-    let u = get_or_read w place c.index-worked-place.result within c.index-worked-place.is e in
-    let d : c.index-worked-start.result ≡ get_or w (start_in a k) e =
-    get_or_read w start c.index-worked-start.result (omega (arith, c.span-start.ensures.some, c.span-start.ensures.inside, c.requires.long)) c.index-worked-start.is e
-    ∙ ap (λ q. get_or w q e) c.span-start.ensures.first in
-    let b = slot_read a k c.requires.position e c.args.levels.now c.requires.size order c.slot.result c.order-order.ensures c.slot.ensures.value c.index-levels-slot.result c.index-levels-slot.is in
+    let u = here.number_is in
+    let d : c.index-worked-places.result ≡ get_or w (start_in a k) e =
+    get_or_read w start c.index-worked-places.result (omega (arith, c.places-places.ensures.some, c.places-places.ensures.inside, c.requires.long)) c.index-worked-places.is e
+    ∙ ap (λ q. get_or w q e) c.places-places.ensures.start in
+    let b = slot_read a k column e c.args.levels.now c.requires.size order c.slot.result c.order-order.ensures c.slot.ensures.value c.index-levels-slot.result c.index-levels-slot.is in
     let is : v ≡ o.updated (now (row_at a place)) (get_or w place e) (get_or w (start_in a k) e) (from k) = cc (x, u, d, b, c.update.ensures) in
-    forward_more o a w k c.requires.position from place now (by_position e (site_of a) (set y at v)) v low high c.loop-place.invariant is
-    (slot_set a (row_at a place) p e y size order at c.order-order.ensures at_is v) (slot_kept a (row_at a place) p e y size order at c.order-order.ensures at_is v)
+    let more : place + 1 ≡ start_in a k + 1 + length (c.loop-row.yielded ++ (c.in-Some.row, c.in-Some.number) ∷ []) =
+    omega (arith, length-append c.loop-row.yielded ((c.in-Some.row, c.in-Some.number) ∷ [])) in
+    subst (λ q. Forwarded o a w k q from next) more
+    (forward_more o a w k column from place now next v here.low here.high c.loop-row.invariant is
+    (slot_set a (row_at a place) p e y size order at c.order-order.ensures at_is v) (slot_kept a (row_at a place) p e y size order at c.order-order.ensures at_is v))
 
 pub returns : goal.returns
 returns g c =
     let o = operations_of g.N.Arithmetic in
-    let a = arrays_of c.args.plan.now in
-    let end : c.loop-place.place ≡ start_in a (c.args.k + 1) =
-    omega (arith, c.span-start.ensures.past, c.loop-place.auto.place-end (omega (arith, c.span-start.ensures.some))) in
-    forward_all o a c.args.worked.now c.args.k c.requires.position (by_position o.nothing (site_of a) c.args.levels.now)
-    g.met.N.Arithmetic.row (by_position o.nothing (site_of a) c.loop-place.levels) (rw end at c.loop-place.invariant)
+    let e = g.N.Arithmetic.nothing in
+    let a = arrays_of c.args.column.plan.now in
+    let k = c.args.column.position in
+    let w = c.args.worked.now in
+    let from = by_position e (site_of a) c.args.levels.now in
+    let now = by_position e (site_of a) c.loop-row.levels in
+    let end = rows_end e a k (position c.args.column) w c.rows.result.now c.places-places.result.start c.places-places.result.end
+    c.loop-row.yielded c.into_iter-row-iterator.result c.loop-row.row-iterator c.next.new.self c.next.result
+    c.rows.ensures.value c.places-places.ensures.start c.places-places.ensures.end
+    (ap (λ z. iter_rest (zip_first z)) c.into_iter-row-iterator.ensures.into_iter_gives ∙ ap iter_rest c.zip-row-items.ensures.first ∙ c.iter.ensures.rest) (cc)
+    c.loop-row.yielded_by c.requires.long c.in-None.is c.next.ensures.steps in
+    forward_all o a w k (position c.args.column) from g.met.N.Arithmetic.row now (subst (λ q. Forwarded o a w k q from now) end c.loop-row.invariant)

@@ -1,28 +1,26 @@
-use Rattle.std.proofs.Common.{◌-◌, ◌/◌, ◌%◌, ◌≡◌, get_or, Some, None, sym, ap, ◌∙◌, arith}
-use Rattle.nodeset.specs.Sets.{bit_at, has, first_of}
-use Rattle.nodeset.proofs.Firsts.{found_here, found_later}
-use Rattle.nodeset.proofs.Found.{first_below, found_least, has_past}
+use Rattle.std.proofs.Common.{Some, None, inl, inr, arith}
+use Rattle.std.proofs.lemmas.Bool.{cases_lt}
+use Rattle.nodeset.specs.Sets.{has, FindsLeast}
+use Rattle.nodeset.proofs.Firsts.{least_first, found_here, found_later}
+use Rattle.nodeset.proofs.Members.{has_past}
 use Rattle.nodeset.proofs.sets.NodeSet.first_from.Goals as goal
-
-pub overflow_add-result : goal.overflow_add-result
-overflow_add-result c =
-    let at = c.loop-at.at in
-    let low = first_below (bit_at (get_or c.args.self.now.words (at / 64) 0)) (64 - at % 64) (at % 64) c.in-Some.bit (sym c.lowest_from.ensures ∙ c.in-Some.is) in
-    record { fits = omega (arith, c.loop-at-test.true, low) }
 
 pub returns-in-Some : goal.returns-in-Some
 returns-in-Some c =
     let s = c.args.self.now in
-    let e = sym (c.loop-at.invariant ∙ found_here s.words c.loop-at.at c.loop-at-test.true c.in-Some.bit (sym c.lowest_from.ensures ∙ c.in-Some.is)) in
-    record { value = e; least = found_least (has s) c.args.i (Some _) (has_past s) e }
+    let (_, on, before) = c.loop-word.invariant in
+    let found = c.in-Some.ensures in
+    let least = found_here s.words c.args.i c.loop-word.word c.loop-word.low c.loop-word-test.true before on c.in-Some.bit found.within found.least in
+    record { value = least_first s c.args.i (Some _) least; least = least }
+
+pub loop-word-preserved : goal.loop-word-preserved
+loop-word-preserved c =
+    let (_, on, before) = c.loop-word.invariant in
+    (omega arith, omega (arith, on), λ j h l. found_later c.args.self.now.words c.args.i c.loop-word.word c.loop-word.low c.loop-word-test.true before c.in_default.ensures.least j h (omega (arith, l)))
 
 pub returns : goal.returns
 returns c =
     let s = c.args.self.now in
-    let past : 512 - c.loop-at.at ≡ 0 = omega (arith, c.loop-at-test.false) in
-    let e = sym (c.loop-at.invariant ∙ ap (first_of (has s) c.loop-at.at) past) in
-    record { value = e; least = found_least (has s) c.args.i None (has_past s) e }
-
-pub loop-at-preserved : goal.loop-at-preserved
-loop-at-preserved c =
-    c.loop-at.invariant ∙ found_later c.args.self.now.words c.loop-at.at c.loop-at-test.true (sym c.lowest_from.ensures ∙ c.in_default.is)
+    let (_, _, before) = c.loop-word.invariant in
+    let none : FindsLeast (has s) c.args.i None = λ j h. elim (cases_lt j 512) [ inl l ↦ before j h (omega (arith, l, c.loop-word-test.false)) | inr l ↦ has_past s j l ] in
+    record { value = least_first s c.args.i None none; least = none }

@@ -1,9 +1,6 @@
-use Rattle.std.proofs.Common.{◌≡◌, ◌-◌}
-use Rattle.nodeset.specs.Sets.{has, first_of}
+use Rattle.std.proofs.Common.{◌≡◌, ℕ, ◌+◌, ◌*◌, ◌<◌, ◌≤◌, false}
+use Rattle.nodeset.specs.Sets.{has}
 use Rattle.nodeset.proofs.sets.NodeSet.first_from.Given as goal
 
-abbrev pub invariant-loop-at : goal.invariant-loop-at
-invariant-loop-at l = first_of (has l.self) l.i (512 - l.i) ≡ first_of (has l.self) l.at (512 - l.at)
-
-abbrev pub decreases-loop-at : goal.decreases-loop-at
-decreases-loop-at l = 512 - l.at
+abbrev pub invariant-loop-word : goal.invariant-loop-word
+invariant-loop-word l = (l.low < 64) × (l.i ≤ l.word * 64 + l.low) × ((j : ℕ) → l.i ≤ j → j < l.word * 64 + l.low → has l.self j ≡ false)

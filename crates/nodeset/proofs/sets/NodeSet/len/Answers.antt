@@ -1,13 +1,18 @@
-use Rattle.std.proofs.Common.{◌≡◌, ◌+◌, ◌*◌, sym, refl, ap, ◌∙◌, ap₂, arith}
-use Rattle.nodeset.specs.Sets.{has, count_below}
-use Rattle.nodeset.proofs.Counted.{count_word}
+use Rattle.std.proofs.Common.{rules, ◌≡◌, ◌∙◌, ◌^◌, length, sum_by, arith}
+use Rattle.std.proofs.lemmas.Iterator.{YieldsList-from_slice}
+use Rattle.std.proofs.lemmas.Iterator.Adapters.{fits_from_length, at_most_from_yields_List}
+use Rattle.nodeset.specs.Sets.{bit_at, count_below}
+use Rattle.nodeset.proofs.Counted.{members_counted}
 use Rattle.nodeset.proofs.sets.NodeSet.len.Goals as goal
 
-pub loop-k-preserved : goal.loop-k-preserved
-loop-k-preserved c = (
-  omega (arith, c.loop-k.invariant.0, c.count-total.ensures.few),
-  ap₂ (λ x y. x + y) c.loop-k.invariant.1 c.count-total.ensures.value ∙ sym (count_word c.args.self.now.words c.loop-k.k 64 c.loop-k-test.true refl),
-)
+pub sum-requires-clause-fits : goal.sum-requires-clause-fits
+sum-requires-clause-fits c =
+    let eight : length c.args.self.now.words ≡ 8 = search rules in
+    fits_from_length _ _ 8 (2 ^ 16) (at_most_from_yields_List (YieldsList-from_slice c.args.self.now.words cc) (omega (arith, eight)))
+    c.map.ensures.closure (omega arith) (λ x r q k. search rules)
 
 pub returns : goal.returns
-returns c = let e : 64 * c.loop-k.k ≡ 512 = omega (arith, c.loop-k-test.false, c.loop-k.auto.k-end) in c.loop-k.invariant.1 ∙ ap (count_below (has c.args.self.now)) e
+returns c =
+    let eight : length c.args.self.now.words ≡ 8 = search rules in
+    let total : c.sum.result ≡ sum_by (λ word. count_below (bit_at word) 64) c.args.self.now.words = search rules in
+    total ∙ members_counted c.args.self.now.words eight

@@ -1,10 +1,17 @@
-use Rattle.std.proofs.Common.{◌≡◌, vec_items}
-use Rattle.plan.specs.Tables.{cell, settled_rows, Has, Recounted}
+use Rattle.std.proofs.Common.{◌≡◌, ℕ, ◌≤◌, vec_items}
+use Rattle.nodeset.specs.Rows.{linked_in as adjacent}
+use Rattle.nodeset.specs.Sets.{has}
+use Rattle.plan.specs.Shown.{SameRest}
+use Rattle.plan.specs.Tables.{settled_rows, Agree, Recounted}
 use Rattle.plan.proofs.planner.Planner.settle.Given as goal
 
 abbrev pub invariant-loop-a : goal.invariant-loop-a
-invariant-loop-a l = Has l.initial.self.n (vec_items l.self.cells) (settled_rows (cell (vec_items l.initial.self.cells)) l.v l.a)
-    × Recounted l.initial.self.n (cell (vec_items l.initial.self.cells)) l.v l.a (vec_items l.initial.self.nodes) (vec_items l.self.nodes)
-    × (l.self.n ≡ l.initial.self.n)
-    × (l.self.order ≡ l.initial.self.order)
-    × (l.self.places ≡ l.initial.self.places)
+invariant-loop-a l = record {
+  can : (goal.iterator-loop-a).can_next l.a-iterator;
+  ends : (goal.iterator-loop-a).is_finite l.a-iterator;
+  row : (b : ℕ) → has l.a-iterator.set b ≡ adjacent l.initial.self.rows l.v b;
+  rows : Agree l.initial.self.n (adjacent l.self.rows) (settled_rows (adjacent l.initial.self.rows) l.v l.a-iterator.from);
+  nodes : Recounted l.initial.self.n (adjacent l.initial.self.rows) l.v l.a-iterator.from (vec_items l.initial.self.nodes) (vec_items l.self.nodes);
+  rest : SameRest l.initial.self l.self;
+  low : l.a-iterator.from ≤ l.initial.self.n;
+}

@@ -1,12 +1,9 @@
 use Rattle.std.proofs.Common.{arith}
 use Rattle.report.specs.Accounts.{spaced_label}
 use Rattle.report.proofs.Labels.{kept_more_yes, kept_more_no}
-use Rattle.report.proofs.Turns.{so_far_none, so_far_more, so_far_is}
+use Rattle.report.proofs.Turns.{so_far_more, so_far_is}
 use Rattle.report.proofs.accounts.NeighboursDisplay.fmt.Goals as goal
 use Rattle.report.proofs.accounts.NeighboursDisplay.fmt.Goals.{then-linked+in_ok-write, else-linked}
-
-pub loop-other-init : goal.loop-other-init
-loop-other-init g c = so_far_none _ _
 
 pub loop-other-preserved : goal.loop-other-preserved
 loop-other-preserved g c =

@@ -1,10 +1,7 @@
 use Rattle.std.proofs.Common.{arith}
 use Rattle.report.proofs.Labels.{each_more}
-use Rattle.report.proofs.Turns.{so_far_none, so_far_more}
+use Rattle.report.proofs.Turns.{so_far_more}
 use Rattle.report.proofs.accounts.NodesDisplay.fmt.Goals as goal
-
-pub loop-label-init : goal.loop-label-init
-loop-label-init g c = so_far_none _ _
 
 pub loop-label-preserved : goal.loop-label-preserved
 loop-label-preserved g c =

@@ -1,5 +1,5 @@
 use Rattle.std.proofs.Common.{sym}
-use Rattle.sheet.specs.Views.{drafted}
+use Rattle.sheet.specs.Drafts.{drafted}
 use Rattle.sheet.proofs.Steps.{fits}
 use Rattle.sheet.proofs.drafts.Draft.enter.Goals as goal
 
