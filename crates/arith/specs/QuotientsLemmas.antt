@@ -3,7 +3,6 @@ use Rattle.std.specs.Prelude.{◌≡◌, ℕ, zero, suc, ◌+◌, ◌*◌, ◌<�
 use Rattle.std.proofs.Common.{sym, ap, ◌∙◌, ⊎_elim, mul_comm, mul-one, mod-eq_of_lt, arith, eqb-true, eq-eqb}
 use Rattle.std.proofs.lemmas.Bool.{cases_Bool}
 use Rattle.arith.specs.declared.residues.Residue.{Residue}
-use Rattle.arith.specs.declared.residues.TheConstants.{PRIME}
 use Rattle.arith.specs.Quotients.{OneQuotient}
 use Rattle.arith.specs.Residues.{residue, first_from, first_quotient, quotient}
 use Rattle.arith.specs.Inverses.{inverted}
@@ -25,21 +24,21 @@ finds test n q (suc more) low high hit only =
     (cases_Bool (test q))
 
 -- a number that gives 1 when it is multiplied by d gives v ÷ d when it is multiplied by v
-pub by_inverse : (v d s : ℕ) → v < PRIME → rem (s * d) ≡ 1 → rem (rem (v * s) * d) ≡ v
+pub by_inverse : (v d s : ℕ) → v < 65521 → rem (s * d) ≡ 1 → rem (rem (v * s) * d) ≡ v
 by_inverse v d s small e = regrouped v s d ∙ ap (λ n. rem (v * n)) e ∙ ap rem (mul-one v) ∙ mod-eq_of_lt small
 
 -- a factor of d can be taken away
-cancel : (x y d : ℕ) → x < PRIME → y < PRIME → 0 < d → d < PRIME → rem (x * d) ≡ rem (y * d) → x ≡ y
+cancel : (x y d : ℕ) → x < 65521 → y < 65521 → 0 < d → d < 65521 → rem (x * d) ≡ rem (y * d) → x ≡ y
 cancel x y d xs ys pos under e =
     let inverse = inverted d d (omega arith) pos under in
     let s = inverse.0 in
     let one : rem (d * s) ≡ 1 = ap rem (mul_comm d s) ∙ inverse.1 in
     sym (by_inverse x s d xs one) ∙ ap (λ n. rem (n * s)) e ∙ by_inverse y s d ys one
 
-found : (q v d : ℕ) → q < PRIME → 0 < d → d < PRIME → rem (q * d) ≡ v → first_quotient v d ≡ q
+found : (q v d : ℕ) → q < 65521 → 0 < d → d < 65521 → rem (q * d) ≡ v → first_quotient v d ≡ q
 unfolding first_quotient
 found q v d small pos under e =
-    finds (λ k. nat_eq (rem (k * d)) v) q 0 PRIME (omega arith) (omega arith) (eq-eqb _ v e)
+    finds (λ k. nat_eq (rem (k * d)) v) q 0 65521 (omega arith) (omega arith) (eq-eqb _ v e)
     (λ k h t. cancel k q d (omega arith) small pos under (eqb-true _ v t ∙ sym e))
 
 -- a residue that gives v when it is multiplied by d is v ÷ d

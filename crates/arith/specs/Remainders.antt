@@ -2,10 +2,9 @@
 use Rattle.std.specs.Prelude.{◌≡◌, ℕ, ◌*◌, ◌%◌}
 use Rattle.std.proofs.Common.{mul_assoc}
 use Rattle.std.proofs.lemmas.Nat.{mul-mod_first, mul-mod_second}
-use Rattle.arith.specs.declared.residues.TheConstants.{PRIME}
 
 abbrev pub rem : ℕ → ℕ
-rem n = n % PRIME
+rem n = n % 65521
 
 -- of a product of three, either two may be taken first
 pub regrouped : (x y z : ℕ) → rem (rem (x * y) * z) ≡ rem (x * rem (y * z))

@@ -2,20 +2,19 @@
 use Rattle.std.specs.Prelude.{ℕ, zero, suc, ◌+◌, ◌-◌, ◌*◌, ◌%◌, ◌<◌, Bool, true, false, cond, ◌==◌, nat_eq}
 use Rattle.std.proofs.Common.{mod-lt, lit<}
 use Rattle.arith.specs.declared.residues.Residue.{Residue}
-use Rattle.arith.specs.declared.residues.TheConstants.{PRIME}
 
-pub remainder_below : (n : ℕ) → n % PRIME < PRIME
+pub remainder_below : (n : ℕ) → n % 65521 < 65521
 remainder_below n = mod-lt n (lit< tt)
 
 -- the residue of a number
 abbrev pub residue : ℕ → Residue
-residue n = record { value = n % PRIME; below = remainder_below n }
+residue n = record { value = n % 65521; below = remainder_below n }
 
 abbrev pub sum : Residue → Residue → Residue
 sum a b = residue (a.value + b.value)
 
 abbrev pub difference : Residue → Residue → Residue
-difference a b = residue (a.value + (PRIME - b.value))
+difference a b = residue (a.value + (65521 - b.value))
 
 abbrev pub product : Residue → Residue → Residue
 product a b = residue (a.value * b.value)
@@ -28,7 +27,7 @@ first_from test q (suc more) = elim (test q) [ true ↦ q | false ↦ first_from
 -- the first q below 65,521 with q × d ≡ v modulo 65,521, and 0 if there is none
 unfoldable pub first_quotient : ℕ → ℕ → ℕ
 unfolding first_from
-first_quotient v d = first_from (λ q. nat_eq (q * d % PRIME) v) 0 PRIME
+first_quotient v d = first_from (λ q. nat_eq (q * d % 65521) v) 0 65521
 
 -- v ÷ d: where d is not 0, the one residue q with q × d ≡ v
 abbrev pub quotient : Residue → Residue → Residue

@@ -1,6 +1,5 @@
 //! Whole numbers modulo the prime 65,521.
 ghost use Rattle.std.specs.Prelude.{◌<◌};
-ghost use Rattle.arith.specs.declared.residues.TheConstants.{PRIME};
 
 mod modular;
 mod operations;
@@ -11,5 +10,5 @@ const PRIME: u32 = 65_521;
 #[derive(Clone, Copy)]
 pub struct Residue {
     value: u32,
-    ghost below: { value < PRIME },
+    ghost below: { value < 65521 },
 }

@@ -11,8 +11,8 @@ use std::num::f64_to_bits_with_nan;
 #[derive(Clone, Copy)]
 pub enum Answer {
     Float(f64),
-    Residue(Residue),
-    Mark(Mark),
+    Residue(u32),
+    Mark(bool),
     Verdict(u32),
 }
 
@@ -25,18 +25,18 @@ impl From<f64> for Answer {
 }
 
 impl From<Residue> for Answer {
-    ghost from_gives = { λ x r. r ≡ answer.Residue x };
+    ghost from_gives = { λ x r. r ≡ answer.Residue x.value };
 
     fn from(residue: Residue) -> Answer {
-        Answer::Residue(residue)
+        Answer::Residue(u32::from(residue))
     }
 }
 
 impl From<Mark> for Answer {
-    ghost from_gives = { λ x r. r ≡ answer.Mark x };
+    ghost from_gives = { λ x r. r ≡ answer.Mark x.on };
 
     fn from(mark: Mark) -> Answer {
-        Answer::Mark(mark)
+        Answer::Mark(mark.on)
     }
 }
 
@@ -47,9 +47,9 @@ impl fmt::Display for Answer {
         match *self {
             Answer::Float(x) if x.is_nan() => write!(f, "nan"),
             Answer::Float(x) => write!(f, "{:016x}", f64_to_bits_with_nan(x)),
-            Answer::Residue(x) => write!(f, "{:x}", u32::from(x)),
-            Answer::Mark(Mark { on: true }) => write!(f, "on"),
-            Answer::Mark(Mark { on: false }) => write!(f, "off"),
+            Answer::Residue(value) => write!(f, "{value:x}"),
+            Answer::Mark(true) => write!(f, "on"),
+            Answer::Mark(false) => write!(f, "off"),
             Answer::Verdict(verdict) => write!(f, "{verdict}"),
         }
     }

@@ -36,7 +36,7 @@ impl Spelled for f64 {
 
 /// A residue is spelled by any 32-bit number that it is the remainder of, in hexadecimal.
 impl Spelled for Residue {
-    ghost answered = { answer.Residue };
+    ghost answered = { λ x. answer.Residue x.value };
 
     ghost told = { Prim.search rules };
 
@@ -47,7 +47,7 @@ impl Spelled for Residue {
 
 /// A mark is spelled `on` or `off`.
 impl Spelled for Mark {
-    ghost answered = { answer.Mark };
+    ghost answered = { λ x. answer.Mark x.on };
 
     ghost told = { Prim.search rules };
 

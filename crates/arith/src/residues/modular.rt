@@ -5,7 +5,7 @@ use super::PRIME;
 
 /// a × b, modulo the prime.
 pub(super) fn times(a: u32, b: u32) -> u32
-    ensures { result ≡ a * b % PRIME }
+    ensures { result ≡ a * b % 65521 }
 {
     (u64::from(a) * u64::from(b) % u64::from(PRIME)) as u32
 }
@@ -13,8 +13,8 @@ pub(super) fn times(a: u32, b: u32) -> u32
 /// What d is multiplied by to give 1, modulo the prime p. At each turn s × d ≡ m. With q the whole part of p ÷ m,
 /// −q × m ≡ p % m, which is below m and not 0: so m goes down to 1.
 pub(super) fn inverse(d: u32) -> u32
-    requires { (0 < d) × (d < PRIME) }
-    ensures { result * d % PRIME ≡ 1 }
+    requires { (0 < d) × (d < 65521) }
+    ensures { result * d % 65521 ≡ 1 }
 {
     let mut m = d;
     let mut s = 1;

@@ -49,6 +49,20 @@ impl Mul for Residue {
 }
 
 impl Residue {
+    /// The residue of any number, by its name.
+    pub fn of(x: u32) -> Residue
+        ensures { result ≡ residue x }
+    {
+        Residue::from(x)
+    }
+
+    /// The residue as a number, by its name.
+    pub fn value(self) -> u32
+        ensures { result ≡ self.value }
+    {
+        u32::from(self)
+    }
+
     /// By one inverse. It is no `/`, since `d` has to be above 0.
     fn divided_by(self, d: Residue) -> Residue
         requires { 0 < d.value }
