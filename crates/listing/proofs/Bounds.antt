@@ -5,8 +5,11 @@ use Rattle.std.specs.List.{range_with_len, flat_map}
 use Rattle.std.proofs.lemmas.List.{length-map, length-take, length-drop}
 use Rattle.std.proofs.lemmas.List.Sums.{length-filter, count_by-le-length}
 use Rattle.std.proofs.lemmas.List.FromFn.{length-range_with_len}
+use Rattle.plan.specs.declared.plans.Plan.{Plan}
 use Rattle.plan.specs.Lookups.{size_in, label_in, parent_in, rows_in, start_in}
 use Rattle.plan.specs.Planned.{Arrays, Keeps}
+use Rattle.plan.specs.Views.{arrays_of}
+use Rattle.plan.proofs.Kept.{keeps}
 use Rattle.plan.proofs.Spans.{column_ends}
 use Rattle.listing.specs.Fills.{unlinked, labels_at, places_in, column_fill, fill_pairs}
 use Rattle.listing.specs.Texts.{spaced, head_text, line_in, listing_text}
@@ -87,3 +90,7 @@ listing_few a keeps =
       each,
       keeps.small,
     )
+
+-- and so the listing of a plan
+pub plan_few : (p : Plan) → length (listing_text (arrays_of p)) < 2 ^ 64
+plan_few p = listing_few (arrays_of p) (keeps p)

@@ -15,7 +15,7 @@ fn put_head(plan: &Plan, page: &mut Page<u8>)
     ensures { Puts (head_text (size_in (arrays_of plan.now)) (length (arrays_of plan.now).rows)) page.old page.new }
 {
     page.extend(b"plan");
-    page.spaced(plan.n());
+    page.spaced(usize::from(plan.n()));
     page.spaced(plan.places());
     page.push(b'\n');
 }
@@ -24,12 +24,12 @@ fn put_head(plan: &Plan, page: &mut Page<u8>)
 fn put_line(column: Column, page: &mut Page<u8>)
     ensures { Puts (line_in (arrays_of column.entry.plan.now) column.entry.position) page.old page.new }
 {
-    page.number(column.position);
-    page.spaced(column.label());
-    page.spaced(column.parent_label());
+    page.number(usize::from(column.position));
+    page.spaced(usize::from(column.label()));
+    page.spaced(usize::from(column.parent_label()));
     page.extend(b" :");
     for row in column.later() {
-        page.spaced(row.label());
+        page.spaced(usize::from(row.label()));
     }
     page.push(b'\n');
 }
@@ -45,6 +45,7 @@ fn put_listing(plan: &Plan, page: &mut Page<u8>)
 }
 
 /// The length of the listing.
+#[tactic(auto, using(crate::proofs::Bounds::plan_few))]
 pub fn listing_length(plan: &Plan) -> usize
     ensures { result ≡ length (listing_text (arrays_of plan.now)) }
 {

@@ -1,10 +1,9 @@
 //! Writing on a page: a lent table, from its front on. What falls past the table's end is counted and not written, so that the
 //! same run over an empty table tells how much room it needs.
-ghost use Rattle.std.specs.Prelude.{◌≡◌, List, [], ◌∷◌, ◌++◌, length, codes};
+ghost use Rattle.std.specs.Prelude.{◌≡◌, List, [], ◌∷◌, ◌++◌, length, codes, decimal};
 ghost use Rattle.listing.specs.Tables.{Puts, CallPuts, answer_for, table_for};
 
 use crate::refusals::TooShort;
-use itoa::{Buffer, Integer};
 
 /// A lent table, and how many items were put on it.
 #[derive(Drop)]
@@ -54,15 +53,18 @@ impl<'a, T: Copy + Drop> Page<'a, T> {
 
 impl Page<'_, u8> {
     /// Puts the decimal digits of a number.
-    pub(crate) fn number<I: Integer>(&mut self, number: I)
-        ensures { Puts (I.text number) self.old self.new }
+    pub(crate) fn number(&mut self, number: usize)
+        ensures { Puts (decimal number) self.old self.new }
     {
-        self.extend(Buffer::new().format(number).as_bytes());
+        if number >= 10 {
+            self.number(number / 10);
+        }
+        self.push(b'0' + (number % 10) as u8);
     }
 
     /// Puts a space and a number.
-    pub(crate) fn spaced<I: Integer>(&mut self, number: I)
-        ensures { Puts (codes " " ++ I.text number) self.old self.new }
+    pub(crate) fn spaced(&mut self, number: usize)
+        ensures { Puts (codes " " ++ decimal number) self.old self.new }
     {
         self.push(b' ');
         self.number(number);
