@@ -4,6 +4,7 @@ ghost use Rattle.std.specs.Prelude.{◌<◌};
 mod modular;
 mod operations;
 
+/// The prime. What residues promise names its digits and not this constant: another number here is then refused.
 const PRIME: u32 = 65_521;
 
 /// A residue, 0 to 65,520.

@@ -91,6 +91,6 @@ listing_few a keeps =
       keeps.small,
     )
 
--- and so the listing of a plan
+-- every plan keeps the rules, so its listing can be counted
 pub plan_few : (p : Plan) → length (listing_text (arrays_of p)) < 2 ^ 64
 plan_few p = listing_few (arrays_of p) (keeps p)

@@ -1,7 +1,8 @@
 //! Writing on a page: a lent table, from its front on. What falls past the table's end is counted and not written, so that the
 //! same run over an empty table tells how much room it needs.
-ghost use Rattle.std.specs.Prelude.{◌≡◌, List, [], ◌∷◌, ◌++◌, length, codes, decimal};
+ghost use Rattle.std.specs.Prelude.{◌≡◌, List, [], ◌∷◌, length, decimal};
 ghost use Rattle.listing.specs.Tables.{Puts, CallPuts, answer_for, table_for};
+ghost use Rattle.listing.specs.Texts.{spaced};
 
 use crate::refusals::TooShort;
 
@@ -64,7 +65,7 @@ impl Page<'_, u8> {
 
     /// Puts a space and a number.
     pub(crate) fn spaced(&mut self, number: usize)
-        ensures { Puts (codes " " ++ decimal number) self.old self.new }
+        ensures { Puts (spaced number) self.old self.new }
     {
         self.push(b' ');
         self.number(number);

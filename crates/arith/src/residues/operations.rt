@@ -49,14 +49,14 @@ impl Mul for Residue {
 }
 
 impl Residue {
-    /// The residue of any number, by its name.
+    /// The same as `Residue::from`.
     pub fn of(x: u32) -> Residue
         ensures { result ≡ residue x }
     {
         Residue::from(x)
     }
 
-    /// The residue as a number, by its name.
+    /// The same as `u32::from`.
     pub fn value(self) -> u32
         ensures { result ≡ self.value }
     {
